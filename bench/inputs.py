@@ -235,6 +235,7 @@ def make_all(folder):
         'logs16000': lambda: one_writer(3, 16_000),
         'logs60000': lambda: one_writer(9, 60_000, 12_000),
         'logs15000': lambda: one_writer(3, 15_000),
+        'mirrored': lambda: one_writer(9, 100_000, 1_000),
         'drops': drops_first,
         'lates': lates_after,
         'restarts': restarts,

@@ -10,7 +10,7 @@ again='' output=''
 # Opens what the program is to read as descriptor 3. A script that stands in no file is kept in one first.
 open_input() {
   case $1 in
-    play | run | node) exec 3<&0 ;;
+    play | run | mirror | node) exec 3<&0 ;;
     *) exec 3</dev/null; return ;;
   esac
   if is_input_a_file; then
@@ -113,7 +113,7 @@ refuse_unbuilt() {
 
 # Runs the program's command, explains a status that isn't 0, and ends with the status.
 run_or_try() {
-  case $1 in play | run) greet_terminal 'a script' ;; esac
+  case $1 in play | run | mirror) greet_terminal 'a script' ;; esac
   open_input "${1-}"
   if is_proved; then
     run_program "$@"

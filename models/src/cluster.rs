@@ -3,7 +3,7 @@
 use crate::disk::{Choice, MemoryDisk};
 use crate::node::Node;
 use crate::opening;
-use crate::reply::{Reason, Refusal, Reply};
+use crate::reply::{Reason, Refusal, Reply, SegmentState};
 use crate::request::Request;
 use crate::script::Order;
 use crate::text::{Line, Lines, Span, Texts};
@@ -126,6 +126,14 @@ impl Cluster {
     /// How many nodes there are.
     pub fn count(&self) -> usize {
         self.seats.len()
+    }
+
+    /// The final segments that hold an edit, of a node that is up. It's no call: a stop that the node holds stays.
+    pub fn final_segments(&self, node: usize) -> Option<Vec<SegmentState>> {
+        match &self.seats[node].state {
+            State::Up(node) => Some(node.final_segments()),
+            State::Down(_) => None,
+        }
     }
 
     /// How many nodes are a majority. MODEL.md, "The parts".

@@ -15,6 +15,7 @@ mod generated;
 mod image;
 mod json;
 mod md5;
+mod mirror;
 mod names;
 mod node;
 mod oev;
@@ -40,6 +41,7 @@ mod writer;
 
 use back::Refusal;
 use ends::Ending;
+use script::BadLine;
 use segment::{Damage, MOST_EDITS};
 use std::ffi::{OsStr, OsString};
 use std::fs::{self, File};
@@ -73,7 +75,7 @@ fn usage_before_bad_text(plain: &[&str]) -> Ending {
 /// The words of a command, or the place of the first word at which they stop being a prefix of one.
 fn shape(words: &[&str]) -> Result<(), usize> {
     let second: &[&str] = match words.first().copied() {
-        Some("play" | "run" | "node" | "fsck") => return exact(words, 1),
+        Some("play" | "run" | "mirror" | "node" | "fsck") => return exact(words, 1),
         Some("gen") => return shape_with_numbers(words, 1, &OF_GEN),
         Some("oev") if words.get(1) == Some(&"back") => return shape_with_numbers(words, 3, &OF_BACK),
         Some("oev") => &["list", "stats", "json"],
@@ -117,7 +119,8 @@ fn run(words: &[&str]) -> Ending {
     }
     match words {
         // `run` is played too: what it prints where one actor's lines don't fall among another's.
-        ["play" | "run"] => play(),
+        ["play" | "run"] => with_script(play),
+        ["mirror"] => with_script(mirror),
         ["node"] => serve::serve(),
         ["fsck"] => match fsck::check() {
             Ok((text, 0)) => Ending::Ok(text),
@@ -136,17 +139,26 @@ fn run(words: &[&str]) -> Ending {
     }
 }
 
-/// Reads a script from the standard input, and plays it.
-fn play() -> Ending {
+/// Reads a script from the standard input, and does something with it.
+fn with_script(take: fn(&[u8]) -> Result<Ending, BadLine>) -> Ending {
     let Ok(script) = ends::read_all(LONGEST_SCRIPT) else { return Ending::ReadFault };
     if script.len() > LONGEST_SCRIPT {
         return Ending::Limit(LONGEST_SCRIPT as u64);
     }
-    match play::play_script(&script) {
-        Ok(Some(report)) => Ending::Report(report),
-        Ok(None) => Ending::Limit(play::LONGEST_REPORT as u64),
-        Err(bad) => Ending::BadScript { line: bad.line, rule: bad.rule },
-    }
+    take(&script).unwrap_or_else(|bad| Ending::BadScript { line: bad.line, rule: bad.rule })
+}
+
+/// Plays a script, for its report.
+fn play(script: &[u8]) -> Result<Ending, BadLine> {
+    Ok(match play::play_script(script)? {
+        Some(report) => Ending::Report(report),
+        None => Ending::Limit(play::LONGEST_REPORT as u64),
+    })
+}
+
+/// Plays a script, for what a mirror of its nodes holds then.
+fn mirror(script: &[u8]) -> Result<Ending, BadLine> {
+    play::mirror_script(script).map(Ending::Ok)
 }
 
 /// Lists a file of the current folder.

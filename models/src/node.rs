@@ -5,7 +5,7 @@ use crate::batch::Batch;
 use crate::disk::{Choice, Disk, DiskFault, MemoryDisk};
 use crate::names::{FileName, NumberFile};
 use crate::recent::Recent;
-use crate::reply::{Reason, Refusal, Reply};
+use crate::reply::{Reason, Refusal, Reply, SegmentState};
 use crate::request::{Head, Request};
 use crate::segment::{self, MOST_EDITS};
 use crate::table::{Kind, ReadFault, Segment};
@@ -106,6 +106,11 @@ impl<D: Disk> Node<D> {
         effects.clear();
         self.effects = effects;
         Ok(())
+    }
+
+    /// Its final segments that hold an edit.
+    pub fn final_segments(&self) -> Vec<SegmentState> {
+        self.segments.values().filter_map(Segment::state).filter(|segment| segment.is_final).collect()
     }
 
     /// Finds the reply, notes what is in memory alone, and lists the durable effects. MODEL.md, "A node", steps 1 to 3.

@@ -4,6 +4,7 @@ use crate::batch::Batch;
 use crate::caller::{all_before, before_call, node_digits, push_causes, Caller};
 use crate::cluster::Cluster;
 use crate::edit::Record;
+use crate::mirror;
 use crate::report::{Listed, Report};
 use crate::script::{BadLine, Line, Script};
 use crate::space::Refused;
@@ -52,10 +53,24 @@ pub struct Play {
     pub counts: Counts,
 }
 
+/// Whether some line may send a late copy, which is found by its place.
+fn has_copies(bytes: &[u8]) -> bool {
+    bytes.windows(6).any(|window| window == b"\nlate ")
+}
+
+/// Plays a whole script, and tells what a mirror of its nodes holds then. Lists are kept where copies want them.
+pub fn mirror_script(bytes: &[u8]) -> Result<Vec<u8>, BadLine> {
+    let keeps = has_copies(bytes);
+    let mut play = Play::new(keeps, keeps);
+    for line in Script::new(bytes) {
+        play.take(line?);
+    }
+    Ok(mirror::tell_pass(&play.cluster))
+}
+
 /// Plays a whole script. A script that breaks a rule is told as that; a report that is too long is none.
 pub fn play_script(bytes: &[u8]) -> Result<Option<Report>, BadLine> {
-    let keeps_places = bytes.windows(6).any(|window| window == b"\nlate ");
-    let mut play = Play::new(true, keeps_places);
+    let mut play = Play::new(true, has_copies(bytes));
     for line in Script::new(bytes) {
         let line = line?;
         if play.length() <= LONGEST_REPORT {

@@ -1,5 +1,5 @@
 -- One call counted.
-use Rattle.std.proofs.Common.{◌≡◌, ◌∙◌, ℕ, suc, ◌+◌, ◌-◌, ◌^◌, ◌<◌, ◌≤◌, List, [], ◌∷◌, refl, ap, arith, Bool, true, false, ◌||◌, ◌&&◌}
+use Rattle.std.proofs.Common.{◌≡◌, ◌∙◌, ℕ, suc, ◌+◌, ◌-◌, ◌^◌, ◌<◌, ◌≤◌, List, [], ◌∷◌, refl, ap, inl, inr, arith, Bool, true, false, ◌||◌, ◌&&◌}
 use Rattle.std.specs.declared.alloc.Global.{Global}
 use Rattle.std.specs.Prelude.{Vec, min, Option, Some, None, Ok, Err, nat_lt, ◌==◌, option_map, if◌then◌else◌}
 use Rattle.std.specs.List.{list_any, list_all}
@@ -59,15 +59,15 @@ module _ (p q : CallPlan) (on : Advances p q) where
   }
 
   pub cause_ok : q.faults ≡ p.faults → HasCause {T = Unit {0}} p.faults q.faults (IsSteady p) (IsSteady q) (Ok tt)
-  cause_ok same = record { later = omega (arith, same); failed = λ e. absurd (cc); steady = steady_stays; no_fault = λ s e. absurd (cc); same = λ s. same }
+  cause_ok same = record { later = omega (arith, same); failed = λ e. absurd (cc); still = inr same; steady = steady_stays; no_fault = λ s e. absurd (cc) }
 
   pub cause_err : is_due p ≡ true → q.faults ≡ min (p.faults + 1) (2 ^ 64 - 1) → p.faults < 2 ^ 64 → HasCause {T = Unit {0}} p.faults q.faults (IsSteady p) (IsSteady q) (Err Failed)
   cause_err due rose fits = record {
     later = omega (arith, rose, fits);
     failed = λ e. omega (arith, rose);
+    still = inl refl;
     steady = steady_stays;
     no_fault = λ s e. let not_due = none_due s in cc;
-    same = λ s. let not_due = none_due s in absurd (cc);
   }
 
   -- where a number of calls is left, no call is listed

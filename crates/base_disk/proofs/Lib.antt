@@ -6,6 +6,7 @@ mod Maps
 mod CallPlanLemmas
 mod Retains
 pub mod Rises
+pub mod Causes
 mod Timeline
 mod Names
 mod Choices

@@ -76,13 +76,14 @@ pub record Atomic {T : Type 0} (step : Files → Files → Type 0) (result : Res
 abbrev pub Rose : ℕ → ℕ → Type 0
 Rose before now = min (before + 1) (2 ^ 64 - 1) ≤ now
 
--- a call answers Failed only where the count of faults rose, and a steady disk never does
+-- A call answers Failed only where the count of faults rose, and a steady disk never does. Where it
+-- answers anything else, lack of memory too, no fault came.
 pub record HasCause {T : Type 0} (before now : ℕ) (was_steady is_steady : Type 0) (result : Result T DiskFail) : Type 0 where
   pub later : before ≤ now
   pub failed : IsErrOf result Failed → Rose before now
+  pub still : IsErrOf result Failed ⊎ (now ≡ before)
   pub steady : was_steady → is_steady
   pub no_fault : was_steady → IsErrOf result Failed → ⊥
-  pub same : was_steady → now ≡ before
 
 -- a call answers OutOfMemory only where the count of shortages rose
 pub record HasShortage {T : Type 0} (before now : ℕ) (result : Result T DiskFail) : Type 0 where

@@ -57,7 +57,8 @@ pub trait DiskModel {
     // What reads give, and which images a crash may leave.
     ghost view: { Self → View };
 
-    // A count that never falls, and rose in each call that answered Failed.
+    // A count that never falls, rose in each call that answered Failed, and stays in every other
+    // call.
     ghost faults: { Self → ℕ };
 
     // A count that never falls, and rose in each call that answered OutOfMemory.

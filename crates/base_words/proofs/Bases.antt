@@ -78,22 +78,18 @@ module _ (base : ℕ) (low : 2 ≤ base) (high : base ≤ 10) where
   spell_next : (k n : ℕ) (acc : List ℕ) → base ≤ n → spell (suc k) n acc ≡ spell k (n / base) (last n ∷ acc)
   spell_next k n acc le = ap (λ (t : Bool). cond t (last n ∷ acc) (spell k (n / base) (last n ∷ acc))) (ne_eqb (n / base) 0 (some_left n le))
 
-  spell-append : (k n : ℕ) (acc : List ℕ) → spell k n acc ≡ spell k n [] ++ acc
-  spell-append zero n acc = refl
-  spell-append (suc k) n acc = ⊎_elim
-      (λ l. spell_last k n acc l ∙ ap (λ (x : List ℕ). x ++ acc) (sym (spell_last k n [] l)))
-      (λ l. spell_next k n acc l ∙ spell-append k (n / base) (last n ∷ acc) ∙ sym (append_assoc (spell k (n / base) []) (last n ∷ []) acc)
-      ∙ ap (λ (x : List ℕ). x ++ acc) (sym (spell_next k n [] l ∙ spell-append k (n / base) (last n ∷ []))))
-      (cases_lt n base)
-
-  -- the limit on the digits does not matter once it is large enough
-  spell_enough : (j k n : ℕ) (acc : List ℕ) → n < 2 ^ suc j → n < 2 ^ suc k → spell (suc j) n acc ≡ spell (suc k) n acc
-  spell_enough zero k n acc p q = spell_last zero n acc (omega arith) ∙ sym (spell_last k n acc (omega arith))
-  spell_enough (suc j) zero n acc p q = spell_last (suc j) n acc (omega arith) ∙ sym (spell_last zero n acc (omega arith))
-  spell_enough (suc j) (suc k) n acc p q = ⊎_elim
-      (λ l. spell_last (suc j) n acc l ∙ sym (spell_last (suc k) n acc l))
-      (λ l. spell_next (suc j) n acc l ∙ spell_enough j k (n / base) (last n ∷ acc) (half n (suc j) p) (half n (suc k) q) ∙ sym (spell_next (suc k) n acc l))
-      (cases_lt n base)
+  -- the digits stand before those that are there, whatever room was left
+  onto : (k j n : ℕ) (acc : List ℕ) → n < 2 ^ suc k → n < 2 ^ suc j → spell (suc k) n acc ≡ spell (suc j) n [] ++ acc
+  onto zero j n acc p q = spell_last zero n acc (omega (arith, p, low)) ∙ ap (λ (ds : List ℕ). ds ++ acc) (sym (spell_last j n [] (omega (arith, p, low))))
+  onto (suc k) zero n acc p q = spell_last (suc k) n acc (omega (arith, q, low)) ∙ ap (λ (ds : List ℕ). ds ++ acc) (sym (spell_last zero n [] (omega (arith, q, low))))
+  onto (suc k) (suc j) n acc p q =
+      elim (cases_lt n base) [
+        | inl lt ↦ spell_last (suc k) n acc lt ∙ ap (λ (ds : List ℕ). ds ++ acc) (sym (spell_last (suc j) n [] lt))
+        | inr le ↦
+            spell_next (suc k) n acc le ∙ onto k j (n / base) (last n ∷ acc) (half n (suc k) p) (half n (suc j) q)
+            ∙ sym (append_assoc (spell (suc j) (n / base) []) (last n ∷ []) acc)
+            ∙ ap (λ (ds : List ℕ). ds ++ acc) (sym (spell_next (suc j) n [] le ∙ onto j j (n / base) (last n ∷ []) (half n (suc j) q) (half n (suc j) q)))
+      ]
 
   whole : (n : ℕ) → spell 64 n [] ≡ digits base false n
   unfolding digits
@@ -111,7 +107,7 @@ module _ (base : ℕ) (low : 2 ≤ base) (high : base ≤ 10) where
 
   digits_step : (n : ℕ) → base ≤ n → n < 2 ^ 64 → digits base false n ≡ digits base false (n / base) ++ (48 + n % base) ∷ []
   digits_step n le lt =
-      sym (whole n) ∙ spell_next 63 n [] le ∙ spell_enough 62 63 (n / base) (last n ∷ []) (half n 63 lt) (omega (arith, half n 63 lt)) ∙ spell-append 64 (n / base) (last n ∷ [])
+      sym (whole n) ∙ spell_next 63 n [] le ∙ onto 62 63 (n / base) (last n ∷ []) (half n 63 lt) (omega (arith, half n 63 lt))
       ∙ (λ i. whole (n / base) i ++ (last_is n i ∷ []))
 
   -- the last digit is written before those that are there

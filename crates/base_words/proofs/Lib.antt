@@ -1,4 +1,5 @@
 pub mod Lists
+pub mod StartLaws
 pub mod Bases
 pub mod PaddedLaws
 pub mod AppendLaws
@@ -6,3 +7,4 @@ pub mod WordLaws
 pub mod NumberLaws
 pub mod HexLaws
 pub mod EndLaws
+pub mod FieldLaws

@@ -1,5 +1,6 @@
 pub mod Fields
 pub mod Padded
+pub mod Starts
 pub mod Numbers
 pub mod Words
 pub mod Hex

@@ -1,4 +1,5 @@
-//! Numbers, names and bytes as the formats write them, and the words of a line.
+//! Numbers, names and bytes as the formats write them, and the words of a line; lists by rising
+//! start.
 #![tactic(auto)]
 
 mod bytes;
@@ -10,6 +11,7 @@ mod limits;
 mod name;
 mod numbers;
 mod padded;
+mod starts;
 mod words;
 
 pub use bytes::Bytes;
@@ -21,4 +23,5 @@ pub use limits::{MAX, OutOfMemory};
 pub use name::Name;
 pub use numbers::number_of;
 pub use padded::{print19, read19};
+pub use starts::{HasStart, place_in};
 pub use words::{count_words, first_word, split_word, word_len};

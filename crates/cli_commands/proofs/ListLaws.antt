@@ -18,7 +18,7 @@ use Rattle.cli_commands.specs.declared.command_fault.CommandFault.TheVariants as
 use Rattle.cli_commands.specs.declared.tool.Tool.{Tool}
 use Rattle.cli_commands.specs.declared.found.Found.{Found}
 use Rattle.cli_commands.specs.declared.found.Found.TheVariants.{Absent, TooLong, Bytes}
-use Rattle.cli_commands.specs.Uses.{DiskUse}
+use Rattle.cli_commands.specs.Uses.{DiskUse, NoDiskFailed}
 use Rattle.cli_commands.specs.Listing.{IsImageTold, file_under, HasCalls, GivesListing, IsListFault}
 use Rattle.cli_commands.specs.Found.{IsFound, IsReadFault, GivesFound, IsFoundFault}
 
@@ -42,7 +42,7 @@ image_text tell bytes (Text text) (readings.BadImage at why) e is = absurd is
 image_text tell bytes (BadBytes place cause) r e is = tt
 image_text tell bytes OutOfMemory r e is = tt
 
-module _ {D : Type 0} (name : List ℕ) (disk : DiskUse D) (calls : HasCalls disk) (of : Tool) where
+module _ {D : Type 0} (name : List ℕ) (disk : DiskUse D) (calls : HasCalls disk) (fine : NoDiskFailed disk) (of : Tool) where
   found_text : (found : Found) (text : List ℕ) → (disk.tells disk.before → IsFound (file_under disk name) found) → GivesFound of found text → GivesListing of name disk status.Ok text
   found_text Absent text is gives = absurd gives
   found_text TooLong text is gives = absurd gives
@@ -61,7 +61,7 @@ module _ {D : Type 0} (name : List ℕ) (disk : DiskUse D) (calls : HasCalls dis
   bytes_fault bytes (fault.Limit number) is so = absurd so
   bytes_fault bytes fault.ReadFault is so = absurd so
   bytes_fault bytes fault.DiskFault is so = absurd so
-  bytes_fault bytes fault.OutOfMemory is so = tt
+  bytes_fault bytes fault.OutOfMemory is so = fine
 
   absent : (disk.tells disk.before → file_under disk name ≡ None) → IsListFault of name disk fault.NoFile
   absent is = record { file = None; same = λ t. sym (is t); calls = calls; so = refl }

@@ -16,7 +16,7 @@ use Rattle.cli_commands.specs.declared.tool.ImageTool.{ImageTool}
 use Rattle.cli_commands.specs.declared.tool.ImageTool.TheVariants as image
 use Rattle.cli_commands.specs.declared.tool.Tool.{Tool}
 use Rattle.cli_commands.specs.declared.tool.Tool.TheVariants as tool
-use Rattle.cli_commands.specs.Commands.{Asked, play, run, node, fsck, gen, list, segment_word, image_word, words_of, AreOfSegment, IsAllowed, AskFor, IsCommand}
+use Rattle.cli_commands.specs.Commands.{Asked, play, run, mirror, node, fsck, gen, list, segment_word, image_word, words_of, AreOfSegment, IsAllowed, AskFor, IsCommand}
 use Rattle.cli_commands.specs.Usage.{is_alone, is_oev, is_oiv, after_one, after_tool, after_program, after_epoch, behind_start, behind_name, after_back, after_oev}
 use Rattle.cli_commands.specs.Usage.{after_number, behind_edits, after_nodes, after_gen, usage_of}
 use Rattle.cli_commands.specs.Words.{StopAt, UsageIsOfFirstWrongWord}
@@ -36,16 +36,22 @@ one_of_three word a b c t = ⊎_elim (λ y. inl ((bytes_eq-Decides word a).0 y))
     (or_cases (bytes_eq word a) (bytes_eq word b || bytes_eq word c) t)
 
 alone_word : (word : List ℕ) → is_alone word ≡ true → IsCommand (word ∷ [])
-alone_word word t = of (or_cases (bytes_eq word (codes "play")) (bytes_eq word (codes "run") || (bytes_eq word (codes "node") || bytes_eq word (codes "fsck"))) t)
+alone_word word t =
+    of (or_cases (bytes_eq word (codes "play")) (bytes_eq word (codes "run") || (bytes_eq word (codes "mirror") || (bytes_eq word (codes "node") || bytes_eq word (codes "fsck")))) t)
   where
-    by : (word ≡ codes "run") ⊎ ((word ≡ codes "node") ⊎ (word ≡ codes "fsck")) → IsCommand (word ∷ [])
-    by (inl e) = (run, record { words_are = ap (λ (w : List ℕ). w ∷ []) e; allowed = tt })
+    by : (word ≡ codes "mirror") ⊎ ((word ≡ codes "node") ⊎ (word ≡ codes "fsck")) → IsCommand (word ∷ [])
+    by (inl e) = (mirror, record { words_are = ap (λ (w : List ℕ). w ∷ []) e; allowed = tt })
     by (inr (inl e)) = (node, record { words_are = ap (λ (w : List ℕ). w ∷ []) e; allowed = tt })
     by (inr (inr e)) = (fsck, record { words_are = ap (λ (w : List ℕ). w ∷ []) e; allowed = tt })
 
-    of : (bytes_eq word (codes "play") ≡ true) ⊎ ((bytes_eq word (codes "run") || (bytes_eq word (codes "node") || bytes_eq word (codes "fsck"))) ≡ true) → IsCommand (word ∷ [])
+    later : (bytes_eq word (codes "run") ≡ true) ⊎ ((bytes_eq word (codes "mirror") || (bytes_eq word (codes "node") || bytes_eq word (codes "fsck"))) ≡ true) → IsCommand (word ∷ [])
+    later (inl y) = (run, record { words_are = ap (λ (w : List ℕ). w ∷ []) ((bytes_eq-Decides word (codes "run")).0 y); allowed = tt })
+    later (inr y) = by (one_of_three word (codes "mirror") (codes "node") (codes "fsck") y)
+
+    of : (bytes_eq word (codes "play") ≡ true)
+        ⊎ ((bytes_eq word (codes "run") || (bytes_eq word (codes "mirror") || (bytes_eq word (codes "node") || bytes_eq word (codes "fsck")))) ≡ true) → IsCommand (word ∷ [])
     of (inl y) = (play, record { words_are = ap (λ (w : List ℕ). w ∷ []) ((bytes_eq-Decides word (codes "play")).0 y); allowed = tt })
-    of (inr y) = by (one_of_three word (codes "run") (codes "node") (codes "fsck") y)
+    of (inr y) = later (or_cases (bytes_eq word (codes "run")) (bytes_eq word (codes "mirror") || (bytes_eq word (codes "node") || bytes_eq word (codes "fsck"))) y)
 
 oev_word : (word : List ℕ) → is_oev word ≡ true → (of : SegmentTool) × (word ≡ segment_word of)
 oev_word word t = by (one_of_three word (codes "list") (codes "stats") (codes "json") t)
@@ -89,6 +95,7 @@ tails a b xs ys e = cc e
 no_words : (asked : Asked) → [] ≡ words_of asked → ⊥
 no_words play e = cc e
 no_words run e = cc e
+no_words mirror e = cc e
 no_words node e = cc e
 no_words fsck e = cc e
 no_words (gen number edits nodes) e = cc e
@@ -98,6 +105,7 @@ no_words (list of name) e = cc e
 first_word : (word : List ℕ) (words : List (List ℕ)) (asked : Asked) → word ∷ words ≡ words_of asked → (is_alone word ≡ true) ⊎ ((word ≡ codes "oev") ⊎ ((word ≡ codes "oiv") ⊎ (word ≡ codes "gen")))
 first_word word words play e = inl (ap is_alone (heads word (codes "play") words [] e))
 first_word word words run e = inl (ap is_alone (heads word (codes "run") words [] e))
+first_word word words mirror e = inl (ap is_alone (heads word (codes "mirror") words [] e))
 first_word word words node e = inl (ap is_alone (heads word (codes "node") words [] e))
 first_word word words fsck e = inl (ap is_alone (heads word (codes "fsck") words [] e))
 first_word word words (gen number edits nodes) e = inr (inr (inr (heads word (codes "gen") words (decimal number ∷ decimal edits ∷ decimal nodes ∷ []) e)))
@@ -112,6 +120,7 @@ apart word program n y e = both_not (is_alone program) n (sym (ap is_alone e) �
 after_alone : (word : List ℕ) (words : List (List ℕ)) (asked : Asked) → is_alone word ≡ true → word ∷ words ≡ words_of asked → words ≡ []
 after_alone word words play y e = tails word (codes "play") words [] e
 after_alone word words run y e = tails word (codes "run") words [] e
+after_alone word words mirror y e = tails word (codes "mirror") words [] e
 after_alone word words node y e = tails word (codes "node") words [] e
 after_alone word words fsck y e = tails word (codes "fsck") words [] e
 after_alone word words (gen number edits nodes) y e = absurd (apart word (codes "gen") refl y (heads word (codes "gen") words (decimal number ∷ decimal edits ∷ decimal nodes ∷ []) e))
@@ -124,6 +133,7 @@ after_alone word words (list (tool.Back start epoch) name) y e =
 program_alone : (word : List ℕ) (asked : Asked) → word ∷ [] ≡ words_of asked → is_alone word ≡ true
 program_alone word play e = ap is_alone (heads word (codes "play") [] [] e)
 program_alone word run e = ap is_alone (heads word (codes "run") [] [] e)
+program_alone word mirror e = ap is_alone (heads word (codes "mirror") [] [] e)
 program_alone word node e = ap is_alone (heads word (codes "node") [] [] e)
 program_alone word fsck e = ap is_alone (heads word (codes "fsck") [] [] e)
 program_alone word (gen number edits nodes) e = absurd (cc (tails word (codes "gen") [] (decimal number ∷ decimal edits ∷ decimal nodes ∷ []) e))
@@ -139,6 +149,7 @@ after_oev_is : (word : List ℕ) (words : List (List ℕ)) → bytes_eq word (co
     → (of : SegmentTool) × (name : List ℕ) × (word ∷ words ≡ segment_word of ∷ name ∷ [])
 after_oev_is word words b (play, e) = absurd (bytes_other (codes "oev") (codes "play") refl (heads (codes "oev") (codes "play") (word ∷ words) [] e.words_are))
 after_oev_is word words b (run, e) = absurd (bytes_other (codes "oev") (codes "run") refl (heads (codes "oev") (codes "run") (word ∷ words) [] e.words_are))
+after_oev_is word words b (mirror, e) = absurd (bytes_other (codes "oev") (codes "mirror") refl (heads (codes "oev") (codes "mirror") (word ∷ words) [] e.words_are))
 after_oev_is word words b (node, e) = absurd (bytes_other (codes "oev") (codes "node") refl (heads (codes "oev") (codes "node") (word ∷ words) [] e.words_are))
 after_oev_is word words b (fsck, e) = absurd (bytes_other (codes "oev") (codes "fsck") refl (heads (codes "oev") (codes "fsck") (word ∷ words) [] e.words_are))
 after_oev_is word words b (gen number edits nodes, e) = absurd (bytes_other (codes "oev") (codes "gen") refl
@@ -158,6 +169,7 @@ after_oiv_is : (word : List ℕ) (words : List (List ℕ)) → no_other word ≡
     → (of : ImageTool) × (name : List ℕ) × (word ∷ words ≡ image_word of ∷ name ∷ [])
 after_oiv_is word words b (play, e) = absurd (bytes_other (codes "oiv") (codes "play") refl (heads (codes "oiv") (codes "play") (word ∷ words) [] e.words_are))
 after_oiv_is word words b (run, e) = absurd (bytes_other (codes "oiv") (codes "run") refl (heads (codes "oiv") (codes "run") (word ∷ words) [] e.words_are))
+after_oiv_is word words b (mirror, e) = absurd (bytes_other (codes "oiv") (codes "mirror") refl (heads (codes "oiv") (codes "mirror") (word ∷ words) [] e.words_are))
 after_oiv_is word words b (node, e) = absurd (bytes_other (codes "oiv") (codes "node") refl (heads (codes "oiv") (codes "node") (word ∷ words) [] e.words_are))
 after_oiv_is word words b (fsck, e) = absurd (bytes_other (codes "oiv") (codes "fsck") refl (heads (codes "oiv") (codes "fsck") (word ∷ words) [] e.words_are))
 after_oiv_is word words b (gen number edits nodes, e) = absurd (bytes_other (codes "oiv") (codes "gen") refl
@@ -274,6 +286,7 @@ record IsBack (words : List (List ℕ)) : Type 0 where
 after_back_is : (words : List (List ℕ)) → IsCommand (codes "oev" ∷ codes "back" ∷ words) → IsBack words
 after_back_is words (play, e) = absurd (bytes_other (codes "oev") (codes "play") refl (heads (codes "oev") (codes "play") (codes "back" ∷ words) [] e.words_are))
 after_back_is words (run, e) = absurd (bytes_other (codes "oev") (codes "run") refl (heads (codes "oev") (codes "run") (codes "back" ∷ words) [] e.words_are))
+after_back_is words (mirror, e) = absurd (bytes_other (codes "oev") (codes "mirror") refl (heads (codes "oev") (codes "mirror") (codes "back" ∷ words) [] e.words_are))
 after_back_is words (node, e) = absurd (bytes_other (codes "oev") (codes "node") refl (heads (codes "oev") (codes "node") (codes "back" ∷ words) [] e.words_are))
 after_back_is words (fsck, e) = absurd (bytes_other (codes "oev") (codes "fsck") refl (heads (codes "oev") (codes "fsck") (codes "back" ∷ words) [] e.words_are))
 after_back_is words (gen number edits nodes, e) = absurd (bytes_other (codes "oev") (codes "gen") refl
@@ -414,6 +427,7 @@ record IsGen (words : List (List ℕ)) : Type 0 where
 after_gen_is : (words : List (List ℕ)) → IsCommand (codes "gen" ∷ words) → IsGen words
 after_gen_is words (play, e) = absurd (bytes_other (codes "gen") (codes "play") refl (heads (codes "gen") (codes "play") words [] e.words_are))
 after_gen_is words (run, e) = absurd (bytes_other (codes "gen") (codes "run") refl (heads (codes "gen") (codes "run") words [] e.words_are))
+after_gen_is words (mirror, e) = absurd (bytes_other (codes "gen") (codes "mirror") refl (heads (codes "gen") (codes "mirror") words [] e.words_are))
 after_gen_is words (node, e) = absurd (bytes_other (codes "gen") (codes "node") refl (heads (codes "gen") (codes "node") words [] e.words_are))
 after_gen_is words (fsck, e) = absurd (bytes_other (codes "gen") (codes "fsck") refl (heads (codes "gen") (codes "fsck") words [] e.words_are))
 after_gen_is words (gen number edits nodes, e) = record {
@@ -587,7 +601,9 @@ no_wrong_word words asked is = by (usage_of words) refl
 
 -- the command of these words, which are one's
 unfoldable alone_at : List ℕ → Asked
-alone_at word = if bytes_eq word (codes "play") then play else (if bytes_eq word (codes "run") then run else (if bytes_eq word (codes "node") then node else fsck))
+alone_at word =
+    if bytes_eq word (codes "play") then play
+    else (if bytes_eq word (codes "run") then run else (if bytes_eq word (codes "mirror") then mirror else (if bytes_eq word (codes "node") then node else fsck)))
 
 unfoldable segment_at : List ℕ → SegmentTool
 segment_at word = if bytes_eq word (codes "list") then segment.List else (if bytes_eq word (codes "stats") then segment.Stats else segment.Json)
@@ -610,6 +626,7 @@ asked_back : (asked : Asked) → IsAllowed asked → asked_at (words_of asked) �
 unfolding asked_at tool_at image_at segment_at alone_at
 asked_back play h = refl
 asked_back run h = refl
+asked_back mirror h = refl
 asked_back node h = refl
 asked_back fsck h = refl
 asked_back (gen number edits nodes) h =

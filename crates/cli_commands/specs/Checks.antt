@@ -6,7 +6,7 @@ use Rattle.cli_commands.specs.declared.status.Status.{Status}
 use Rattle.cli_commands.specs.declared.status.Status.TheVariants as status
 use Rattle.cli_commands.specs.declared.command_fault.CommandFault.{CommandFault}
 use Rattle.cli_commands.specs.declared.command_fault.CommandFault.TheVariants as fault
-use Rattle.cli_commands.specs.Uses.{SinkUse, DiskUse}
+use Rattle.cli_commands.specs.Uses.{SinkUse, DiskUse, NoDiskFailed}
 use Rattle.cli_commands.specs.Told.{Told}
 use Rattle.cli_commands.specs.Listing.{HasCalls, IsOnlyRead}
 
@@ -24,7 +24,7 @@ pub record GivesFindings {D : Type 0} (disk : DiskUse D) (good : Status) (text :
 -- each fault comes only where this holds
 abbrev pub IsCheckFault : {D : Type 0} → DiskUse D → CommandFault → Type 0
 IsCheckFault disk fault.DiskFault = Rose (disk.faults disk.before) (disk.faults disk.now)
-IsCheckFault disk fault.OutOfMemory = Unit {0}
+IsCheckFault disk fault.OutOfMemory = NoDiskFailed disk
 IsCheckFault disk _ = ⊥
 
 -- How a check ended.

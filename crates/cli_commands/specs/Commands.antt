@@ -11,12 +11,14 @@ use Rattle.cli_commands.specs.declared.tool.Tool.TheVariants as tool
 use Rattle.cli_commands.specs.declared.command.Command.{Command}
 use Rattle.cli_commands.specs.declared.command.Command.TheVariants as command
 
--- What can be asked for: a script is played, in order or by threads, a node is served, the disk's
--- files are checked, the script that a number gives is played, with so many edits over so many
--- nodes, or what this tool makes of the file of this name is written.
+-- What can be asked for: a script is played, in order or by threads, or in order and its nodes are
+-- mirrored, a node is served, the disk's files are checked, the script that a number gives is
+-- played, with so many edits over so many nodes, or what this tool makes of the file of this name
+-- is written.
 pub data Asked : Type 0 where
   play : Asked
   run : Asked
+  mirror : Asked
   node : Asked
   fsck : Asked
   gen : (number edits nodes : ℕ) → Asked
@@ -26,6 +28,7 @@ pub data Asked : Type 0 where
 abbrev pub asked_in : Command → Asked
 asked_in command.Play = play
 asked_in command.Run = run
+asked_in command.Mirror = mirror
 asked_in command.Node = node
 asked_in command.Fsck = fsck
 asked_in (command.Gen number edits nodes) = gen number edits nodes
@@ -62,6 +65,7 @@ numbers_of (tool.Back start epoch) = decimal start ∷ decimal epoch ∷ []
 abbrev pub words_of : Asked → List (List ℕ)
 words_of play = codes "play" ∷ []
 words_of run = codes "run" ∷ []
+words_of mirror = codes "mirror" ∷ []
 words_of node = codes "node" ∷ []
 words_of fsck = codes "fsck" ∷ []
 words_of (gen number edits nodes) = codes "gen" ∷ decimal number ∷ decimal edits ∷ decimal nodes ∷ []

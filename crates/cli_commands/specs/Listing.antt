@@ -31,7 +31,7 @@ use Rattle.cli_commands.specs.declared.tool.ImageTool.{ImageTool}
 use Rattle.cli_commands.specs.declared.tool.ImageTool.TheVariants as image
 use Rattle.cli_commands.specs.declared.tool.Tool.{Tool}
 use Rattle.cli_commands.specs.declared.tool.Tool.TheVariants as tool
-use Rattle.cli_commands.specs.Uses.{SinkUse, DiskUse}
+use Rattle.cli_commands.specs.Uses.{SinkUse, DiskUse, NoDiskFailed}
 use Rattle.cli_commands.specs.Told.{Told}
 
 -- ## What is due of a file
@@ -137,7 +137,7 @@ GivesListing of name disk good text = (good ≡ status.Ok) × OfFile disk name (
 
 -- Each fault comes only where this holds. No two of them hold of one file, but for a disk that
 -- failed and lack of memory, so each comes exactly there. A disk fault comes where the disk has no
--- call left, and not where it is known to have two.
+-- call left, and not where it is known to have two. Where one came, no lack of memory is told.
 abbrev pub IsListFault : {D : Type 0} → Tool → List ℕ → DiskUse D → CommandFault → Type 0
 IsListFault of name disk fault.NoFile = OfFile disk name (λ file. IsFileFault of file fault.NoFile)
 IsListFault of name disk (fault.BadBytes place cause) = OfFile disk name (λ file. IsFileFault of file (fault.BadBytes place cause))
@@ -148,7 +148,7 @@ IsListFault of name disk (fault.TooManyEntries number) = OfFile disk name (λ fi
 IsListFault of name disk (fault.Limit number) = (number ≡ longest_file) × HasCalls disk × (disk.tells disk.before → IsTooLong (file_under disk name))
 IsListFault of name disk fault.DiskFault =
     Rose (disk.faults disk.before) (disk.faults disk.now) × ((k : ℕ) → disk.left disk.before ≡ Some (2 + k) → ⊥)
-IsListFault of name disk fault.OutOfMemory = Unit {0}
+IsListFault of name disk fault.OutOfMemory = NoDiskFailed disk
 IsListFault of name disk _ = ⊥
 
 -- ## What was done
@@ -158,7 +158,7 @@ disk_answer status.DiskFault = Err fail.Failed
 disk_answer status.OutOfMemory = Err fail.OutOfMemory
 disk_answer _ = Ok tt
 
--- the disk was read and not changed, and a disk fault comes only of one that failed
+-- the disk was read and not changed, and a disk fault is told just where one came
 pub record IsOnlyRead {D : Type 0} (disk : DiskUse D) (s : Status) : Type 0 where
   pub rests : disk.tells disk.before → Rests (disk.view disk.before) (disk.view disk.now)
   pub cause : HasCause (disk.faults disk.before) (disk.faults disk.now) (disk.steady disk.before) (disk.steady disk.now) (disk_answer s)

@@ -11,7 +11,8 @@ bytes_of words = map string_bytes words
 
 -- a command of one word
 abbrev pub is_alone : List ℕ → Bool
-is_alone word = bytes_eq word (codes "play") || (bytes_eq word (codes "run") || (bytes_eq word (codes "node") || bytes_eq word (codes "fsck")))
+is_alone word =
+    bytes_eq word (codes "play") || (bytes_eq word (codes "run") || (bytes_eq word (codes "mirror") || (bytes_eq word (codes "node") || bytes_eq word (codes "fsck"))))
 
 -- the word of a listing of a segment's file
 abbrev pub is_oev : List ℕ → Bool

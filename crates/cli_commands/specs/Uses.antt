@@ -57,6 +57,9 @@ pub record DiskUse (D : Type 0) : Type 1 where
   pub before : D
   pub now : D
 
+abbrev pub NoDiskFailed : {D : Type 0} → DiskUse D → Type 0
+NoDiskFailed disk = disk.faults disk.now ≡ disk.faults disk.before
+
 abbrev pub done_to : {D : Type 0} → (D → Type 0) → (D → View) → (D → ℕ) → (D → Type 0) → (D → Option ℕ) → D → D → DiskUse D
 done_to tells view faults steady left before now =
     record { tells = tells; view = view; faults = faults; steady = steady; left = left; before = before; now = now }

@@ -23,6 +23,8 @@ pub enum Command<'a> {
     Play,
     /// To play it by threads.
     Run,
+    /// To play it in order, and to mirror the final segments of its nodes.
+    Mirror,
     /// To serve a node, whose files are on the disk.
     Node,
     /// To check the disk's files.
@@ -41,6 +43,8 @@ fn command_of<'a>(word: &str) -> Option<Command<'a>>
         Some(Command::Play)
     } else if word == "run" {
         Some(Command::Run)
+    } else if word == "mirror" {
+        Some(Command::Mirror)
     } else if word == "node" {
         Some(Command::Node)
     } else if word == "fsck" {

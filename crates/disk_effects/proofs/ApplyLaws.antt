@@ -1,11 +1,10 @@
 -- What an effect makes of rows that tell segments: rows that tell what it leaves.
 use Rattle.std.proofs.Common.{ℕ, ◌≡◌, ◌≤◌, ◌<◌, ◌+◌, ◌-◌, ◌^◌, ◌==◌, ◌++◌, List, [], ◌∷◌, length, Option, Some, None, Bool, true, false, cond, nat_lt}
 use Rattle.std.proofs.Common.{refl, sym, ap, ◌∙◌, arith, subst, length-append, add-zero}
-use Rattle.std.proofs.lemmas.Bool.{cond_both, eqb-true}
 use Rattle.std.proofs.lemmas.Bool.Decides.{nat_tests}
-use Rattle.std.proofs.lemmas.Option.{same_Some}
 use Rattle.std.specs.Prelude.{IsSome}
 use Rattle.std.specs.List.{list_any, flat_map}
+use Rattle.base_words.proofs.StartLaws.{put_all, without_all, found_all, find_start}
 use Rattle.journal_core.specs.Views.{BatchView, HeadView, last_txid}
 use Rattle.journal_core.specs.declared.segment.Segment.{Segment}
 use Rattle.journal_core.specs.declared.segment_info.SegmentInfo.{SegmentInfo}
@@ -14,11 +13,13 @@ use Rattle.journal_core.specs.declared.request.Request.TheVariants.{State, NewEp
 use Rattle.journal_core.specs.Limits.{limit_of, max_body, max_number}
 use Rattle.journal_core.specs.Segments.{find_segment, put_segment, remove_segment, info_of}
 use Rattle.journal_core.specs.Effects.{segments_after, appended, finalized, empty_segment, accepted_segment}
+use Rattle.journal_core.proofs.PlaceLaws.{by_segments}
 use Rattle.disk_frame.specs.Frames.{entry_bytes}
 use Rattle.disk_frame.proofs.ReadLaws.{short_sized}
 use Rattle.disk_segment.specs.declared.segment_row.SegmentRow.{SegmentRow}
 use Rattle.disk_segment.specs.Rows.{find_row, put_row, remove_row, IsRowWithin}
-use Rattle.disk_segment.specs.RowsTell.{AreInfos, AreStarts}
+use Rattle.disk_segment.specs.RowsTell.{AreInfos, IsStart}
+use Rattle.disk_segment.proofs.RowLaws.{by_rows}
 use Rattle.journal_step.specs.declared.durable_effect.DurableEffect.{DurableEffect}
 use Rattle.journal_step.specs.declared.durable_effect.DurableEffect.TheVariants as durable
 use Rattle.disk_effects.specs.Told.{Tells}
@@ -43,18 +44,9 @@ put_infos new row (g ∷ gs) (r ∷ rows) e i =
           [ true ↦ (e, i) | false ↦ (i.0, put_infos new row gs rows e i.1) ]
     ]))
 
-put_starts : (new : Segment) (gs : List Segment) → (1 ≤ new.start) × (new.start ≤ 2 ^ 62) → AreStarts gs → AreStarts (put_segment new gs)
-unfolding put_segment
-put_starts new [] n s = (n, tt)
-put_starts new (g ∷ gs) n s =
-    elim (g.start == new.start) as (λ b. AreStarts (cond b (new ∷ gs) (cond (nat_lt new.start g.start) (new ∷ g ∷ gs) (g ∷ put_segment new gs)))) [
-      | true ↦ (n, s.1)
-      | false ↦ elim (nat_lt new.start g.start) as (λ b. AreStarts (cond b (new ∷ g ∷ gs) (g ∷ put_segment new gs))) [ true ↦ (n, s) | false ↦ (s.0, put_starts new gs n s.1) ]
-    ]
-
 put_told : (new : Segment) (row : SegmentRow) (gs : List Segment) (rows : List SegmentRow) → Tells gs rows → row.info ≡ info_of new → (1 ≤ new.start) × (new.start ≤ 2 ^ 62)
     → Tells (put_segment new gs) (put_row row rows)
-put_told new row gs rows t e n = record { infos = put_infos new row gs rows e t.infos; starts = put_starts new gs n t.starts }
+put_told new row gs rows t e n = record { infos = put_infos new row gs rows e t.infos; starts = put_all by_segments IsStart new gs n t.starts }
 
 remove_infos : (start : ℕ) (gs : List Segment) (rows : List SegmentRow) → AreInfos gs rows → AreInfos (remove_segment start gs) (remove_row start rows)
 unfolding remove_segment remove_row
@@ -67,20 +59,7 @@ remove_infos start (g ∷ gs) (row ∷ rows) i =
     (elim (g.start == start) as (λ b. AreInfos (cond b (remove_segment start gs) (g ∷ remove_segment start gs)) (cond b (remove_row start rows) (row ∷ remove_row start rows)))
     [ true ↦ remove_infos start gs rows i.1 | false ↦ (i.0, remove_infos start gs rows i.1) ])
 
-remove_starts : (start : ℕ) (gs : List Segment) → AreStarts gs → AreStarts (remove_segment start gs)
-unfolding remove_segment
-remove_starts start [] s = tt
-remove_starts start (g ∷ gs) s =
-    elim (g.start == start) as (λ b. AreStarts (cond b (remove_segment start gs) (g ∷ remove_segment start gs))) [ true ↦ remove_starts start gs s.1 | false ↦ (s.0, remove_starts start gs s.1) ]
-
 -- ## Each effect
-start_in : (gs : List Segment) (start : ℕ) (g : Segment) → AreStarts gs → find_segment start gs ≡ Some g → (1 ≤ g.start) × (g.start ≤ 2 ^ 62)
-unfolding find_segment
-start_in [] start g s e = absurd (cc)
-start_in (h ∷ hs) start g s e =
-    elim (h.start == start) as (λ b. cond b (Some h) (find_segment start hs) ≡ Some g → (1 ≤ g.start) × (g.start ≤ 2 ^ 62))
-    [ true ↦ λ k. (let same : h ≡ g = cc in subst (λ (x : Segment). (1 ≤ x.start) × (x.start ≤ 2 ^ 62)) same s.0) | false ↦ λ k. start_in hs start g s.1 k ] e
-
 begun_info : (start epoch : ℕ) → (begun_row start epoch).info ≡ info_of (empty_segment start epoch)
 begun_info start epoch =
     ap (λ (n : ℕ). let i : SegmentInfo = record { start = start; end = n - 1; epoch = epoch; is_final = false; accepted = false } in i) (sym (add-zero start))
@@ -100,13 +79,13 @@ append_told start at place b gs rows t d =
     let info = appended_info d.segment d.row b start place told.0 d.start_is d.next in
     subst (λ o. Tells (appended b.bodies o gs) (changed (appended_row (last_txid b) place) (find_row start rows) rows)) (sym d.known)
     (subst (λ p. Tells (appended b.bodies (Some d.segment) gs) (changed (appended_row (last_txid b) place) p rows)) (sym d.told)
-    (put_told _ _ gs rows t info (start_in gs start d.segment t.starts d.known)))
+    (put_told _ _ gs rows t info (found_all by_segments IsStart start gs d.segment t.starts d.known)))
 
 final_by : (start : ℕ) (gs : List Segment) (rows : List SegmentRow) (g : Segment) (p : Option SegmentRow) → Tells gs rows → find_segment start gs ≡ Some g → IsTold (Some g) p
     → Tells (finalized (Some g) gs) (changed final_row p rows)
 final_by start gs rows g None t e told = absurd told
 final_by start gs rows g (Some row) t e told =
-    put_told _ _ gs rows t (ap (λ (i : SegmentInfo). let j : SegmentInfo = record i { is_final = true; accepted = false } in j) told.0) (start_in gs start g t.starts e)
+    put_told _ _ gs rows t (ap (λ (i : SegmentInfo). let j : SegmentInfo = record i { is_final = true; accepted = false } in j) told.0) (found_all by_segments IsStart start gs g t.starts e)
 
 final_told : (start end : ℕ) (accepted : Bool) (gs : List Segment) (rows : List SegmentRow) → Tells gs rows → IsFinalizeDue start end accepted gs
     → Tells (finalized (find_segment start gs) gs) (changed final_row (find_row start rows) rows)
@@ -125,7 +104,7 @@ after_told r (durable.Append start at) place gs rows t due = append_told start a
 after_told r (durable.Replace epoch again) place gs rows t due = put_told (accepted_segment epoch (batch_of r)) (accepted_row epoch (batch_of r)) gs rows t refl due.start_fits
 after_told r (durable.MakeFinal start end accepted) place gs rows t due = final_told start end accepted gs rows t due
 after_told r (durable.Remove info) place gs rows t due =
-    record { infos = remove_infos info.start gs rows t.infos; starts = remove_starts info.start gs t.starts }
+    record { infos = remove_infos info.start gs rows t.infos; starts = without_all by_segments IsStart info.start gs t.starts }
 
 -- an effect that is due is in range
 pub due_in_range : (r : Request) (d : DurableEffect) (gs : List Segment) (rows : List SegmentRow) → IsDue gs rows r d → IsInRange r d
@@ -138,22 +117,14 @@ due_in_range r (durable.Replace epoch again) gs rows due = due.start_fits
 due_in_range r (durable.MakeFinal start end accepted) gs rows due = tt
 due_in_range r (durable.Remove info) gs rows due = tt
 
--- the row that is found by a start has it
-start_found : (start : ℕ) (row : SegmentRow) (rows : List SegmentRow) → find_row start rows ≡ Some row → row.info.start ≡ start
-unfolding find_row
-start_found start row [] e = absurd (cc)
-start_found start row (other ∷ rows) is =
-    cond_both (other.info.start == start) (Some other) (find_row start rows) (λ o. o ≡ Some row → row.info.start ≡ start)
-    (λ t e. subst (λ (x : SegmentRow). x.info.start ≡ start) (same_Some other row e) (eqb-true other.info.start start t)) (λ t e. start_found start row rows e) is
-
 -- the row that is found is there by its own start
 pub found_there : (start : ℕ) (row : SegmentRow) (rows : List SegmentRow) → find_row start rows ≡ Some row → IsSome (find_row row.info.start rows)
-found_there start row rows is = subst (λ (n : ℕ). IsSome (find_row n rows)) (sym (start_found start row rows is)) (subst (λ (o : Option SegmentRow). IsSome o) (sym is) refl)
+found_there start row rows is = subst (λ (n : ℕ). IsSome (find_row n rows)) (sym (find_start by_rows start rows row is)) (subst (λ (o : Option SegmentRow). IsSome o) (sym is) refl)
 
 -- an append leaves a row that a table can hold
 pub appended_within : (start end place : ℕ) (row : SegmentRow) (rows : List SegmentRow) → find_row start rows ≡ Some row → IsRowWithin row → start ≤ end + 1 → end ≤ max_number
     → IsRowWithin (appended_row end place row)
-appended_within start end place row rows is w after small = (w.0, w.1, subst (λ (n : ℕ). n ≤ end + 1) (sym (start_found start row rows is)) after, small)
+appended_within start end place row rows is w after small = (w.0, w.1, subst (λ (n : ℕ). n ≤ end + 1) (sym (find_start by_rows start rows row is)) after, small)
 
 -- ## The batch of a request that passes no limit
 pub last_within : (r : Request) → limit_of r ≡ None → last_txid (batch_of r) ≤ max_number

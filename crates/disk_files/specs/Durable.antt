@@ -1,5 +1,6 @@
 -- Which files stand for the durable state of a node.
-use Rattle.std.specs.Prelude.{◌≡◌, ℕ, ◌≤◌, ◌^◌, true, List, [], ◌∷◌, None, codes}
+use Rattle.std.specs.Prelude.{◌≡◌, ℕ, ◌≤◌, ◌^◌, true, List, None, codes}
+use Rattle.std.specs.List.{AllByRecursion}
 use Rattle.base_disk.specs.Files.{Files}
 use Rattle.base_disk.specs.View.{View, AllLeave}
 use Rattle.base_files.specs.Puts.{temporary}
@@ -33,10 +34,12 @@ pub record StandsAs (files : Files) (s : NodeState) : Type 0 where
   pub numbers : HaveNumbers files s
   pub segments : StandsFor files s.segments
 
--- each accepted segment holds an edit
+-- it holds an edit where it is accepted
+abbrev pub IsFilled : Segment → Type 0
+IsFilled g = g.accepted ≡ true → has_edit g ≡ true
+
 abbrev pub AreFilled : List Segment → Type 0
-AreFilled [] = Unit {0}
-AreFilled (g ∷ gs) = (g.accepted ≡ true → has_edit g ≡ true) × AreFilled gs
+AreFilled = AllByRecursion IsFilled
 
 -- The files, and those that each crash would leave, stand for the state, and no temporary file is
 -- in the way. Each effect takes this and gives it back.

@@ -7,11 +7,12 @@ use Rattle.std.proofs.lemmas.Bool.{ltb-false, le-ltb, cond-false}
 use Rattle.std.proofs.lemmas.Option.{same_Some, option_and_then_some}
 use Rattle.std.proofs.lemmas.List.{take_at, drop_at, take-append-drop, drop-drop, length-append, length-take, length-drop}
 use Rattle.std.proofs.lemmas.Nat.{from_be_bytes-to_be_bytes_2, from_be_bytes-to_be_bytes_4, from_be_bytes-to_be_bytes_8}
+use Rattle.base_words.specs.Fields.{IsBytes}
+use Rattle.base_words.proofs.FieldLaws.{Front, bytes_after, field16, field32, field64}
 use Rattle.journal_core.specs.Views.{BatchView}
 use Rattle.disk_frame.specs.Frames.{entry_bytes, inner_bytes}
-use Rattle.disk_frame.specs.Faults.{IsBytes, FitsFields}
+use Rattle.disk_frame.specs.Faults.{FitsFields}
 use Rattle.disk_frame.specs.Reading.{entry_at, entries_in, batch_in}
-use Rattle.disk_frame.proofs.FieldLaws.{IsBytes-drop, wide16, wide32, wide64, front_spelled, front_below}
 
 -- ---- one entry
 
@@ -46,16 +47,16 @@ entry_takes bytes body rest fits e =
     let g = none_or (ltb (length bytes) (2 + from_be_bytes w16 (take 2 bytes)))
     (take (from_be_bytes w16 (take 2 bytes)) (drop 2 bytes), drop (2 + from_be_bytes w16 (take 2 bytes)) bytes) (body, rest) e in
     let there : 2 + from_be_bytes w16 (take 2 bytes) ≤ length bytes = ltb-false _ _ g.0 in
-    let spelled : bytes ≡ to_be_bytes w16 (from_be_bytes w16 (take 2 bytes)) ++ drop 2 bytes = front_spelled w16 2 (2 ^ 16) wide16 bytes fits (omega (arith, there)) in
+    let size : Front w16 2 (2 ^ 16) bytes (from_be_bytes w16 (take 2 bytes)) (drop 2 bytes) = field16.found bytes fits (omega (arith, there)) in
     let len : length (take (from_be_bytes w16 (take 2 bytes)) (drop 2 bytes)) ≡ from_be_bytes w16 (take 2 bytes) =
     omega (arith, length-take (from_be_bytes w16 (take 2 bytes)) (drop 2 bytes), length-drop 2 bytes, there) in
     let split : drop 2 bytes ≡ take (from_be_bytes w16 (take 2 bytes)) (drop 2 bytes) ++ drop (2 + from_be_bytes w16 (take 2 bytes)) bytes =
     sym (take-append-drop (from_be_bytes w16 (take 2 bytes)) (drop 2 bytes))
     ∙ ap (λ (r : List ℕ). take (from_be_bytes w16 (take 2 bytes)) (drop 2 bytes) ++ r) (drop-drop (from_be_bytes w16 (take 2 bytes)) 2 bytes) in
     let made : TakesEntry bytes (take (from_be_bytes w16 (take 2 bytes)) (drop 2 bytes)) (drop (2 + from_be_bytes w16 (take 2 bytes)) bytes) = record {
-      parts = spelled ∙ (λ i. to_be_bytes w16 (sym len i) ++ split i);
-      short = subst (λ (k : ℕ). k < 2 ^ 16) (sym len) (front_below w16 2 (2 ^ 16) wide16 bytes fits);
-      fits = IsBytes-drop (2 + from_be_bytes w16 (take 2 bytes)) bytes fits;
+      parts = size.spelled ∙ (λ i. to_be_bytes w16 (sym len i) ++ split i);
+      short = subst (λ (k : ℕ). k < 2 ^ 16) (sym len) size.small;
+      fits = bytes_after (2 + from_be_bytes w16 (take 2 bytes)) bytes fits;
     } in
     subst (λ (x : List ℕ × List ℕ). TakesEntry bytes x.0 x.1) g.1 made
 
@@ -118,17 +119,17 @@ batch_takes inner b fits below e =
     let m = map_some (λ (bodies : List (List ℕ)). record { first = from_be_bytes w64 (take 8 inner); bodies = bodies })
     (entries_in (from_be_bytes w32 (take 4 (drop 8 inner))) (drop 12 inner)) b g.1 in
     let bodies = m.0 in
-    let t = entries_take (from_be_bytes w32 (take 4 (drop 8 inner))) (drop 12 inner) m.0 (IsBytes-drop 12 inner fits) m.1 in
-    let front : inner ≡ to_be_bytes w64 (from_be_bytes w64 (take 8 inner)) ++ drop 8 inner = front_spelled w64 8 (2 ^ 64) wide64 inner fits (omega (arith, long)) in
-    let middle : drop 8 inner ≡ to_be_bytes w32 (from_be_bytes w32 (take 4 (drop 8 inner))) ++ drop 4 (drop 8 inner) =
-    front_spelled w32 4 (2 ^ 32) wide32 (drop 8 inner) (IsBytes-drop 8 inner fits) (omega (arith, long, length-drop 8 inner)) in
+    let t = entries_take (from_be_bytes w32 (take 4 (drop 8 inner))) (drop 12 inner) m.0 (bytes_after 12 inner fits) m.1 in
+    let first : Front w64 8 (2 ^ 64) inner (from_be_bytes w64 (take 8 inner)) (drop 8 inner) = field64.found inner fits (omega (arith, long)) in
+    let told : Front w32 4 (2 ^ 32) (drop 8 inner) (from_be_bytes w32 (take 4 (drop 8 inner))) (drop 4 (drop 8 inner)) =
+    field32.found (drop 8 inner) (bytes_after 8 inner fits) (omega (arith, long, length-drop 8 inner)) in
     let end : drop 4 (drop 8 inner) ≡ flat_map entry_bytes m.0 = drop-drop 4 8 inner ∙ t.parts in
     let whole : inner ≡ inner_bytes (record { first = from_be_bytes w64 (take 8 inner); bodies = m.0 }) =
-    front ∙ ap (λ (r : List ℕ). to_be_bytes w64 (from_be_bytes w64 (take 8 inner)) ++ r) (middle ∙ (λ i. to_be_bytes w32 (sym t.all i) ++ end i)) in
-    let count_fits : length m.0 < 2 ^ 32 = subst (λ (k : ℕ). k < 2 ^ 32) (sym t.all) (front_below w32 4 (2 ^ 32) wide32 (drop 8 inner) (IsBytes-drop 8 inner fits)) in
+    first.spelled ∙ ap (λ (r : List ℕ). to_be_bytes w64 (from_be_bytes w64 (take 8 inner)) ++ r) (told.spelled ∙ (λ i. to_be_bytes w32 (sym t.all i) ++ end i)) in
+    let count_fits : length m.0 < 2 ^ 32 = subst (λ (k : ℕ). k < 2 ^ 32) (sym t.all) told.small in
     let fit : FitsFields (record { first = from_be_bytes w64 (take 8 inner); bodies = m.0 }) = record {
       whole = subst (λ (x : List ℕ). length x < 2 ^ 32) whole below;
-      first = front_below w64 8 (2 ^ 64) wide64 inner fits;
+      first = first.small;
       count = count_fits;
       bodies = t.short;
     } in

@@ -4,13 +4,14 @@ use Rattle.std.specs.List.{list_any}
 use Rattle.std.proofs.lemmas.Bool.{cases_lt, cases_eq}
 use Rattle.std.proofs.lemmas.List.{length-drop}
 use Rattle.std.proofs.lemmas.Option.{same_Some}
+use Rattle.base_words.specs.Fields.{IsBytes}
+use Rattle.base_words.proofs.FieldLaws.{bytes_after}
 use Rattle.journal_core.specs.Views.{BatchView, last_txid}
 use Rattle.disk_frame.specs.declared.frame_cause.FrameCause.{FrameCause}
 use Rattle.disk_frame.specs.declared.frame_cause.FrameCause.TheVariants.{Short, Length, Count, Body, Order}
 use Rattle.disk_frame.specs.Frames.{frame_bytes, is_bad_count, is_bad_body, is_out_of_order, broken_rule, BeginWithFrames, IsTail, AreFrames}
-use Rattle.disk_frame.specs.Faults.{IsBytes, HasSeal, told_length, Spells, IsBadFrame, HaveBadFrame}
+use Rattle.disk_frame.specs.Faults.{HasSeal, told_length, Spells, IsBadFrame, HaveBadFrame}
 use Rattle.disk_frame.specs.Reading.{batch_in}
-use Rattle.disk_frame.proofs.FieldLaws.{IsBytes-drop}
 use Rattle.disk_frame.proofs.SpellLaws.{spelled_tells, spelled_batch, one_spelling, spells_from, length-frame_bytes}
 use Rattle.disk_frame.proofs.FrameLaws.{Stops, one_front, goes_on, no_frames}
 
@@ -167,7 +168,7 @@ answer_from zero first bytes bodies end fits le frames (whole b spells good) =
     absurd (omega (arith, le, there, length-drop end bytes))
 answer_from (suc fuel) first bytes bodies end fits le frames (whole b spells good) =
     answer_from fuel first bytes (bodies ++ b.bodies) (end + length (frame_bytes b)) fits (omega (arith, le, length-frame_bytes b)) (goes_on first bytes bodies end b frames spells good)
-    (judged (first + length (bodies ++ b.bodies)) (drop (end + length (frame_bytes b)) bytes) (IsBytes-drop (end + length (frame_bytes b)) bytes fits))
+    (judged (first + length (bodies ++ b.bodies)) (drop (end + length (frame_bytes b)) bytes) (bytes_after (end + length (frame_bytes b)) bytes fits))
 
 pub some_answer : (first : ℕ) (bytes : List ℕ) → IsBytes bytes → Answer first bytes
 some_answer first bytes fits = answer_from (length bytes) first bytes [] 0 fits (omega arith) (no_frames first bytes) (judged (first + 0) bytes fits)

@@ -1,4 +1,3 @@
-pub mod FieldLaws
 pub mod EntryLaws
 pub mod SpellLaws
 pub mod RuleLaws

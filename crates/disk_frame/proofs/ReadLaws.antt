@@ -8,12 +8,13 @@ use Rattle.std.specs.Int.{Width, w16, w32, w64, byte_len, from_be_bytes, to_be_b
 use Rattle.std.proofs.lemmas.Bool.{ltb-false, le-ltb, lt-ltb, leb-true, leb-false, cond-false, cond-true, or_parts}
 use Rattle.std.proofs.lemmas.Option.{same_Some, none-some, option_and_then_some}
 use Rattle.std.proofs.lemmas.List.{take_at, drop-drop, drop-take, take-take, drop_all, nil_from_length, length-append, length-take, length-drop}
-use Rattle.base_words.specs.Fields.{number_at}
+use Rattle.base_words.proofs.Lists.{one_left}
+use Rattle.base_words.specs.Fields.{number_at, IsBytes}
 use Rattle.journal_core.specs.Views.{BatchView}
 use Rattle.disk_frame.specs.declared.frame_cause.FrameCause.{FrameCause}
 use Rattle.disk_frame.specs.declared.frame_cause.FrameCause.TheVariants.{Length}
 use Rattle.disk_frame.specs.Frames.{entry_bytes, inner_bytes, frame_bytes, is_bad_body, broken_rule, IsTail}
-use Rattle.disk_frame.specs.Faults.{IsBytes, HasSeal, told_length, Spells, IsBadFrame}
+use Rattle.disk_frame.specs.Faults.{HasSeal, told_length, Spells, IsBadFrame}
 use Rattle.disk_frame.specs.Reading.{entry_at, entries_in, batch_in, first_rule, count_unless, judged}
 use Rattle.disk_frame.specs.Answers.{IsWholeFrame}
 use Rattle.journal_core.specs.Limits.{max_body}
@@ -91,16 +92,14 @@ seen_more found now body (Some bodies) is = ap (λ (b : Bool). Some b) (or_assoc
 pub bad_more : (found now : Bool) (count i : ℕ) (rest body behind : List ℕ) (total : Option Bool) → i < count → Some (body, behind) ≡ entry_at rest → now ≡ (found || is_bad_body body)
     → seen_bad found (entries_in (count - i) rest) ≡ total → seen_bad now (entries_in (count - (i + 1)) behind) ≡ total
 bad_more found now count i rest body behind total lt e is so_far =
-    let k : count - i ≡ suc (count - (i + 1)) = omega (arith, lt) in
     let one : entries_in (count - i) rest ≡ option_map (λ (bodies : List (List ℕ)). body ∷ bodies) (entries_in (count - (i + 1)) behind) =
-    ap (λ (n : ℕ). entries_in n rest) k ∙ one_entry_in (count - (i + 1)) rest body behind e in
+    ap (λ (n : ℕ). entries_in n rest) (one_left lt) ∙ one_entry_in (count - (i + 1)) rest body behind e in
     sym (seen_more found now body (entries_in (count - (i + 1)) behind) is) ∙ ap (seen_bad found) (sym one) ∙ so_far
 
 pub bad_stops : (found : Bool) (count i : ℕ) (rest : List ℕ) (total : Option Bool) → i < count → None ≡ entry_at rest → seen_bad found (entries_in (count - i) rest) ≡ total → None ≡ total
 unfolding seen_bad
 bad_stops found count i rest total lt e so_far =
-    let k : count - i ≡ suc (count - (i + 1)) = omega (arith, lt) in
-    let one : entries_in (count - i) rest ≡ None = ap (λ (n : ℕ). entries_in n rest) k ∙ no_entry_in (count - (i + 1)) rest e in
+    let one : entries_in (count - i) rest ≡ None = ap (λ (n : ℕ). entries_in n rest) (one_left lt) ∙ no_entry_in (count - (i + 1)) rest e in
     ap (seen_bad found) (sym one) ∙ so_far
 
 or_false : (x : Bool) → (x || false) ≡ x

@@ -3,12 +3,13 @@ use Rattle.std.proofs.Common.{◌≡◌, ℕ, ◌+◌, ◌^◌, ◌<◌, ◌≤�
 use Rattle.std.specs.Int.{w64, from_be_bytes}
 use Rattle.std.proofs.lemmas.List.{take-append-le, drop-append-le, take-take, drop-take, drop-drop, length-take, length-drop}
 use Rattle.std.proofs.lemmas.Nat.{from_be_bytes-to_be_bytes_8}
+use Rattle.base_words.specs.Fields.{IsBytes}
+use Rattle.base_words.proofs.FieldLaws.{bytes_after}
 use Rattle.journal_core.specs.Views.{BatchView}
 use Rattle.disk_frame.specs.declared.frame_cause.FrameCause.{FrameCause}
 use Rattle.disk_frame.specs.Frames.{frame_bytes, broken_rule, IsTail, AreFrames}
 use Rattle.disk_frame.specs.Segments.{header_bytes, HasHeader, IsSegmentFile, HasBadSegmentFrame}
-use Rattle.disk_frame.specs.Faults.{IsBytes, HaveBadFrame}
-use Rattle.disk_frame.proofs.FieldLaws.{IsBytes-drop}
+use Rattle.disk_frame.specs.Faults.{HaveBadFrame}
 use Rattle.disk_frame.proofs.FrameLaws.{no_frames, other_tail, one_frame_more}
 use Rattle.disk_frame.proofs.FaultLaws.{one_value, no_value, one_fault, some_answer}
 
@@ -119,7 +120,7 @@ one_segment_fault bytes start start' epoch epoch' place other c d s t =
 pub some_segment : (bytes : List ℕ) (start epoch : ℕ) → IsBytes bytes → HasHeader bytes start epoch
     → ((bodies : List (List ℕ)) × (whole_length : ℕ) × IsSegmentFile bytes start epoch bodies whole_length) ⊎ ((place : ℕ) × (cause : FrameCause) × HasBadSegmentFrame bytes start epoch place cause)
 some_segment bytes start epoch fits header =
-    elim (some_answer start (drop 24 bytes) (IsBytes-drop 24 bytes fits)) [
+    elim (some_answer start (drop 24 bytes) (bytes_after 24 bytes fits)) [
       | inl value ↦ inl (value.0, 24 + value.1, record { header = header; frames_length = value.1; frames = value.2; whole = refl })
       | inr fault ↦ inr (24 + fault.0, fault.1, record { header = header; behind = fault.0; bad = fault.2; at = refl })
     ]

@@ -4,11 +4,12 @@ use Rattle.std.specs.Int.{w32, from_be_bytes, to_be_bytes}
 use Rattle.std.proofs.lemmas.Option.{same_Some}
 use Rattle.std.proofs.lemmas.List.{take_at, take-append-drop, length-append, length-take, length-drop}
 use Rattle.std.proofs.lemmas.Nat.{from_be_bytes-to_be_bytes_4}
+use Rattle.base_words.specs.Fields.{IsBytes}
+use Rattle.base_words.proofs.FieldLaws.{Front, bytes_before, bytes_after, field32}
 use Rattle.journal_core.specs.Views.{BatchView}
 use Rattle.disk_frame.specs.Frames.{inner_bytes, frame_bytes}
-use Rattle.disk_frame.specs.Faults.{IsBytes, HasSeal, told_length, Spells}
+use Rattle.disk_frame.specs.Faults.{HasSeal, told_length, Spells}
 use Rattle.disk_frame.specs.Reading.{batch_in}
-use Rattle.disk_frame.proofs.FieldLaws.{IsBytes-drop, IsBytes-take, wide32, front_spelled, front_below}
 use Rattle.disk_frame.proofs.EntryLaws.{batch_again, batch_takes}
 
 pub length-frame_bytes : (b : BatchView) → length (frame_bytes b) ≡ 5 + length (inner_bytes b)
@@ -52,15 +53,16 @@ spells_from (byte ∷ bytes) b fits is_seal there e =
     let long : 4 + from_be_bytes w32 (take 4 bytes) ≤ length bytes = omega (arith, there) in
     let len : length (take (from_be_bytes w32 (take 4 bytes)) (drop 4 bytes)) ≡ from_be_bytes w32 (take 4 bytes) =
     omega (arith, length-take (from_be_bytes w32 (take 4 bytes)) (drop 4 bytes), length-drop 4 bytes, long) in
-    let below : length (take (from_be_bytes w32 (take 4 bytes)) (drop 4 bytes)) < 2 ^ 32 = subst (λ (k : ℕ). k < 2 ^ 32) (sym len) (front_below w32 4 (2 ^ 32) wide32 bytes fit) in
-    let t = batch_takes (take (from_be_bytes w32 (take 4 bytes)) (drop 4 bytes)) b (IsBytes-take (from_be_bytes w32 (take 4 bytes)) (drop 4 bytes) (IsBytes-drop 4 bytes fit)) below e in
+    let size : Front w32 4 (2 ^ 32) bytes (from_be_bytes w32 (take 4 bytes)) (drop 4 bytes) = field32.found bytes fit (omega (arith, long)) in
+    let below : length (take (from_be_bytes w32 (take 4 bytes)) (drop 4 bytes)) < 2 ^ 32 = subst (λ (k : ℕ). k < 2 ^ 32) (sym len) size.small in
+    let t = batch_takes (take (from_be_bytes w32 (take 4 bytes)) (drop 4 bytes)) b (bytes_before (from_be_bytes w32 (take 4 bytes)) (drop 4 bytes) (bytes_after 4 bytes fit)) below e in
     let told_is : from_be_bytes w32 (take 4 bytes) ≡ length (inner_bytes b) = sym len ∙ ap length t.0 in
     let rest : List ℕ = drop (from_be_bytes w32 (take 4 bytes)) (drop 4 bytes) in
     let split : drop 4 bytes ≡ inner_bytes b ++ drop (from_be_bytes w32 (take 4 bytes)) (drop 4 bytes) =
     sym (take-append-drop (from_be_bytes w32 (take 4 bytes)) (drop 4 bytes))
     ∙ ap (λ (x : List ℕ). x ++ drop (from_be_bytes w32 (take 4 bytes)) (drop 4 bytes)) t.0 in
     let tail : bytes ≡ to_be_bytes w32 (length (inner_bytes b)) ++ (inner_bytes b ++ drop (from_be_bytes w32 (take 4 bytes)) (drop 4 bytes)) =
-    front_spelled w32 4 (2 ^ 32) wide32 bytes fit (omega (arith, long)) ∙ (λ i. to_be_bytes w32 (told_is i) ++ split i) in
+    size.spelled ∙ (λ i. to_be_bytes w32 (told_is i) ++ split i) in
     record {
       fits = t.1;
       rest = drop (from_be_bytes w32 (take 4 bytes)) (drop 4 bytes);

@@ -1,5 +1,5 @@
 -- What is wrong with a frame, and where.
-use Rattle.std.specs.Prelude.{◌≡◌, ℕ, ◌+◌, ◌^◌, ◌<◌, ◌≤◌, List, [], ◌∷◌, ◌++◌, length, take, drop, slice_index, Some}
+use Rattle.std.specs.Prelude.{◌≡◌, ℕ, ◌+◌, ◌^◌, ◌<◌, ◌≤◌, List, [], ◌∷◌, ◌++◌, length, take, drop, Some}
 use Rattle.std.specs.List.{AllByRecursion}
 use Rattle.std.specs.Int.{w32, from_be_bytes}
 use Rattle.journal_core.specs.Views.{BatchView}
@@ -10,10 +10,6 @@ use Rattle.disk_frame.specs.Frames.{seal, inner_bytes, frame_bytes, broken_rule,
 abbrev pub HasSeal : List ℕ → Type 0
 HasSeal [] = ⊥
 HasSeal (byte ∷ bytes) = byte ≡ seal
-
--- numbers that are bytes
-abbrev pub IsBytes : List ℕ → Type 0
-IsBytes bytes = (i : ℕ) → slice_index bytes i < 256
 
 -- the length that a frame tells after its seal
 abbrev pub told_length : List ℕ → ℕ

@@ -1,9 +1,10 @@
 //! Laws of frames and of the bytes of a segment file.
 ghost use Rattle.std.specs.Prelude.{◌≡◌, ◌⊎◌, ◌+◌, ◌≤◌, ◌++◌, [], List, ℕ, length, take, None};
+ghost use Rattle.base_words.specs.Fields.{IsBytes};
 ghost use Rattle.journal_core.specs.Views.{BatchView};
 ghost use Rattle.disk_frame.specs.declared.frame_cause.FrameCause.{FrameCause};
 ghost use Rattle.disk_frame.specs.Frames.{frame_bytes, broken_rule, IsTail, AreFrames};
-ghost use Rattle.disk_frame.specs.Faults.{IsBytes, HaveBadFrame};
+ghost use Rattle.disk_frame.specs.Faults.{HaveBadFrame};
 ghost use Rattle.disk_frame.specs.Segments.{header_bytes, HasHeader, IsSegmentFile, HasBadSegmentFrame};
 
 /// The frame of a batch that breaks no rule is read back as the batch, whatever tail follows.

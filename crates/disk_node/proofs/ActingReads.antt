@@ -2,6 +2,7 @@
 use Rattle.std.proofs.Common.{inl, inr, ℕ, ◌≡◌, ◌⊎◌, ◌≤◌, ◌-◌, Bool, List, [], ◌∷◌, take, drop, Option, Some, None, refl, sym, ap, subst, ◌∙◌, arith, zero, suc, length-take, length-drop}
 use Rattle.std.proofs.lemmas.List.{take-take}
 use Rattle.std.proofs.lemmas.Option.{same_Some}
+use Rattle.base_words.proofs.StartLaws.{found_all}
 use Rattle.base_disk.specs.View.{View, IsSound}
 use Rattle.journal_core.specs.Views.{BatchView, last_txid}
 use Rattle.journal_core.specs.declared.segment.Segment.{Segment}
@@ -18,6 +19,7 @@ use Rattle.disk_effects.specs.Served.{IsServedBy, IsLineOf}
 use Rattle.journal_core.specs.Reads.{piece_of as fetched_piece}
 use Rattle.journal_core.specs.Reads.{served, serving, edits_from, answer_from, not_served, least_served}
 use Rattle.journal_core.specs.Answers.{Serves as NodeServes}
+use Rattle.journal_core.proofs.PlaceLaws.{by_segments}
 use Rattle.journal_core.proofs.SegmentLists.{find-start}
 use Rattle.disk_segment.specs.Names.{Kind, InProgress, Final, name_of, kind_of}
 use Rattle.disk_segment.specs.Stands.{HoldsEdits, Holds, IsFinalOf, IsProgressOf, CountsUnderWay, CountsPlain, slot_of}
@@ -27,7 +29,6 @@ use Rattle.disk_segment.specs.declared.given.Given.TheVariants as given
 use Rattle.disk_effects.specs.Told.{Tells, line_of}
 use Rattle.disk_node.specs.Decoded.{bodies_in}
 use Rattle.disk_node.proofs.Decodes.{segment_file_decoded}
-use Rattle.disk_node.proofs.DoingRows.{within_of}
 use Rattle.disk_segment.specs.Rows.{find_row}
 use Rattle.disk_segment.specs.declared.segment_row.SegmentRow.{SegmentRow}
 use Rattle.disk_effects.proofs.ToldLaws.{IsTold, found}
@@ -117,7 +118,7 @@ pub told_edits : (start from most : ℕ) (g : Segment) (gs : List Segment) (b : 
     → reply ≡ Edits (record { first = from; bodies = take most (take 256 (drop (from - g.start) g.bodies)) })
 told_edits start from most g gs b reply sound known low high piece told =
     let at : g.start ≡ start = find-start start gs g known in
-    let within : IsWithin g = within_of start gs g sound.within known in
+    let within : IsWithin g = found_all by_segments IsWithin start gs g sound.within known in
     let bodies : b.bodies ≡ take 256 (drop (from - g.start) g.bodies) = ap (λ (x : BatchView). x.bodies) piece ∙ ap (λ (n : ℕ). take 256 (drop (from - n) g.bodies)) (sym at) in
     let P : List (List ℕ) → Type 0 = λ xs. (last_txid (record { first = from; bodies = take most xs }) ≤ max_number → reply ≡ Edits (record { first = from; bodies = take most xs })) in
     subst P bodies told (omega (

@@ -3,11 +3,14 @@ use Rattle.std.proofs.Common.{inl, inr, ◌≡◌, ℕ, ◌≤◌, ◌+◌, ◌^
 use Rattle.std.specs.Prelude.{IsSome, Result, Ok, Err, OnOk, IsErr, IsErrOf}
 use Rattle.std.proofs.lemmas.Option.{same_Some}
 use Rattle.std.proofs.lemmas.Result.{on_ok_weaker}
+use Rattle.base_words.proofs.StartLaws.{found_all}
 use Rattle.base_disk.specs.View.{View, IsSound, IsStable}
+use Rattle.base_disk.specs.Calls.{HasCause}
 use Rattle.base_disk.specs.DiskCalls.{IsDiskCall}
 use Rattle.base_disk.specs.declared.disk.DiskFail.{DiskFail}
 use Rattle.base_disk.specs.declared.disk.DiskFail.TheVariants.{Failed, OutOfMemory}
 use Rattle.base_disk.specs.declared.disk.DiskModel.{Ghosts}
+use Rattle.base_disk.proofs.Causes.{cause_as}
 use Rattle.journal_core.specs.Views.{BatchView}
 use Rattle.journal_core.specs.declared.cut.Cut.{Cut}
 use Rattle.journal_core.specs.declared.cut.Cut.TheVariants as cuts
@@ -25,7 +28,8 @@ use Rattle.disk_segment.specs.Names.{InProgress, Final, Record, name_of, kind_of
 use Rattle.disk_segment.specs.Stands.{Holds, slot_of}
 use Rattle.disk_segment.specs.Effects.{AppendsAt, IsCounted}
 use Rattle.disk_segment.specs.Calls.{CanAppend, CanFinalize, CanDiscard}
-use Rattle.disk_segment.specs.Rows.{AreSoundRows}
+use Rattle.disk_segment.specs.Rows.{AreSoundRows, IsRowWithin}
+use Rattle.disk_segment.proofs.RowLaws.{by_rows}
 use Rattle.disk_segment.specs.declared.segment_row.SegmentRow.{SegmentRow}
 use Rattle.disk_segment.specs.RowsTell.{AreStarts}
 use Rattle.disk_files.specs.Durable.{HoldsState}
@@ -41,7 +45,7 @@ use Rattle.disk_effects.specs.Due.{batch_of, effect_of, IsAppendDue, IsFinalizeD
 use Rattle.disk_node.specs.Doing.{placeless, storing, CanDo, DoesEffect}
 use Rattle.journal_step.specs.declared.durable_effect.DurableEffect.{DurableEffect}
 use Rattle.journal_step.specs.declared.durable_effect.DurableEffect.TheVariants as durable
-use Rattle.disk_node.proofs.DoingRows.{row_of, row_within}
+use Rattle.disk_node.proofs.DoingRows.{row_of}
 
 -- ## What is asked of any disk
 find_range : (start : ℕ) (gs : List Segment) (g : Segment) → AreStarts gs → find_segment start gs ≡ Some g → (1 ≤ start) × (start ≤ 2 ^ 62)
@@ -60,7 +64,7 @@ pub remove_end : (info : SegmentInfo) (gs : List Segment) (rows : List SegmentRo
 remove_end info gs rows t sound due =
     let there = row_of gs rows info.start due.segment t due.known in
     let same : info.end ≡ there.0.info.end = ap (λ (i : SegmentInfo). i.end) (due.info_is ∙ sym there.2) in
-    omega (arith, row_within rows info.start there.0 sound.within there.1, same)
+    omega (arith, found_all by_rows IsRowWithin info.start rows there.0 sound.within there.1, same)
 
 -- ## What is asked of files
 module _ (v : View) (rows : List SegmentRow) (s : NodeState) (r : Request) where
@@ -257,6 +261,17 @@ module _ {s : NodeState} {r : Request} {d : DurableEffect} {v0 v1 : View} {l0 l1
         cut = record { stands = λ k is failed cut c chosen. absurd (cc failed) };
       }
 
+placeless_failed : (x : Result (Unit {0}) DiskFail) → IsErrOf (placeless x) Failed → IsErrOf x Failed
+placeless_failed (Ok y) e = absurd (cc e)
+placeless_failed (Err fail) e = let p : fail ≡ Failed = cc in ap (λ (f : DiskFail). Err f) p
+
+placeless_back : (x : Result (Unit {0}) DiskFail) → IsErrOf x Failed → IsErrOf (placeless x) Failed
+placeless_back (Ok y) e = absurd (cc e)
+placeless_back (Err fail) e = let p : fail ≡ Failed = cc in ap (λ (f : DiskFail). Err f) p
+
+placeless_cause : (f g : ℕ) (was now : Type 0) (x : Result (Unit {0}) DiskFail) → HasCause f g was now x → HasCause f g was now (placeless x)
+placeless_cause f g was now x cause = cause_as f g was now x (placeless x) cause (placeless_failed x) (placeless_back x)
+
 pub call_placeless : {D : Type 0} (disk : Ghosts D) {old new : D} {done : Result (Unit {0}) DiskFail} {result : Result ℕ DiskFail}
     → result ≡ placeless done → IsDiskCall disk old new done → IsDiskCall disk old new result
 call_placeless disk {old = old} {new = new} {done = done} is call = subst (λ (x : Result ℕ DiskFail). IsDiskCall disk old new x) (sym is) (by done call)
@@ -265,18 +280,12 @@ call_placeless disk {old = old} {new = new} {done = done} is call = subst (λ (x
     by (Ok y) call = record {
       tells = call.tells;
       reads = call.reads;
-      cause = record { later = call.cause.later; failed = λ e. absurd (cc e); steady = call.cause.steady; no_fault = λ was e. absurd (cc e); same = call.cause.same };
+      cause = placeless_cause (disk.faults old) (disk.faults new) (disk.steady old) (disk.steady new) (Ok y) call.cause;
       shortage = record { later = call.shortage.later; short = λ e. absurd (cc e) };
     }
     by (Err fail) call = record {
       tells = call.tells;
       reads = call.reads;
-      cause = record {
-        later = call.cause.later;
-        failed = λ e. let p : fail ≡ Failed = cc in call.cause.failed (ap (λ (f : DiskFail). Err f) p);
-        steady = call.cause.steady;
-        no_fault = λ was e. let p : fail ≡ Failed = cc in call.cause.no_fault was (ap (λ (f : DiskFail). Err f) p);
-        same = call.cause.same;
-      };
+      cause = placeless_cause (disk.faults old) (disk.faults new) (disk.steady old) (disk.steady new) (Err fail) call.cause;
       shortage = record { later = call.shortage.later; short = λ e. let p : fail ≡ OutOfMemory = cc in call.shortage.short (ap (λ (f : DiskFail). Err f) p) };
     }

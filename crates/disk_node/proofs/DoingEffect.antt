@@ -3,6 +3,7 @@ use Rattle.std.proofs.Common.{inl, inr, ⊎_elim, ◌≡◌, ◌≢◌, ◌⊎�
 use Rattle.std.specs.Prelude.{Result, IsOk, IsErrOf}
 use Rattle.std.proofs.lemmas.Bool.{cases_eq, cond_both, cond-true, cond-false}
 use Rattle.std.proofs.lemmas.Option.{same_Some}
+use Rattle.base_words.proofs.StartLaws.{find_put_same, find_put_other, find_without_other}
 use Rattle.base_disk.specs.View.{View, IsSound, LeavesOnly, AllLeave}
 use Rattle.base_disk.specs.declared.disk.DiskFail.{DiskFail}
 use Rattle.base_disk.specs.declared.disk.DiskFail.TheVariants.{Failed}
@@ -19,6 +20,7 @@ use Rattle.disk_frame.specs.Frames.{frame_bytes}
 use Rattle.disk_segment.specs.Effects.{AppendsAt}
 use Rattle.disk_segment.proofs.Counts.{on_ok}
 use Rattle.disk_segment.specs.Rows.{find_row, put_row}
+use Rattle.disk_segment.proofs.RowLaws.{by_rows}
 use Rattle.disk_segment.specs.declared.segment_row.SegmentRow.{SegmentRow}
 use Rattle.disk_files.specs.Durable.{StandsAs, HoldsState}
 use Rattle.disk_files.specs.EffectCalls.{IsCutAt}
@@ -31,7 +33,7 @@ use Rattle.journal_step.specs.declared.durable_effect.DurableEffect.{DurableEffe
 use Rattle.journal_step.specs.declared.durable_effect.DurableEffect.TheVariants as durable
 use Rattle.disk_effects.proofs.ToldLaws.{start_told}
 use Rattle.disk_effects.proofs.ApplyLaws.{after_told}
-use Rattle.disk_node.proofs.DoingRows.{find_put_same, find_put_other, find_remove_other, row_of, tells_covers, IsNotedAfter, IsNotedBefore, no_place, covers_after, covers_before, sound_after}
+use Rattle.disk_node.proofs.DoingRows.{row_of, tells_covers, IsNotedAfter, IsNotedBefore, no_place, covers_after, covers_before, sound_after}
 
 -- ## What a crash leaves
 pub stands_now : (v : View) (s : NodeState) → HoldsState v s → AllLeave v (λ c. StandsAs c s)
@@ -159,7 +161,7 @@ begun_opens start epoch v1 gs rows appends = record {
   segment = empty_segment start epoch;
   row = begun_row start epoch;
   known = find-put_same (empty_segment start epoch) gs;
-  told = find_put_same (begun_row start epoch) rows;
+  told = find_put_same by_rows (begun_row start epoch) rows;
   in_progress = refl;
   appends = appends;
 }
@@ -192,7 +194,7 @@ module _ (r : Request) (v0 v1 : View) (gs : List Segment) (rows : List SegmentRo
       segment = longer;
       row = lengthened;
       known = subst (λ (m : ℕ). find_segment m (put_segment longer gs) ≡ Some longer) due.start_is (find-put_same longer gs);
-      told = subst (λ (m : ℕ). find_row m (put_row lengthened rows) ≡ Some lengthened) row_start (find_put_same lengthened rows);
+      told = subst (λ (m : ℕ). find_row m (put_row lengthened rows) ≡ Some lengthened) row_start (find_put_same by_rows lengthened rows);
       in_progress = due.in_progress;
       appends = behind due.segment due.known;
     }
@@ -208,7 +210,7 @@ module _ (r : Request) (v0 v1 : View) (gs : List Segment) (rows : List SegmentRo
           | inl is ↦ subst (λ (m : ℕ). AppendsTo v1 (put_segment longer gs) (put_row lengthened rows) m) is (appended_opens behind)
           | inr ne ↦ passed_by opened v0 v1 gs (put_segment longer gs) rows (put_row lengthened rows) o
               (find-put_other opened longer gs (λ same. ne (sym due.start_is ∙ same)))
-              (find_put_other opened lengthened rows (λ same. ne (sym row_start ∙ same)))
+              (find_put_other by_rows opened lengthened rows (λ same. ne (sym row_start ∙ same)))
               (others o.segment o.row.whole_length (λ same. ne (sym same ∙ find-start opened gs o.segment o.known)) o.appends)
         ]))
 
@@ -223,7 +225,7 @@ module _ (r : Request) (v0 v1 : View) (gs : List Segment) (rows : List SegmentRo
         (subst (λ (o : Option SegmentRow). AppendsTo v1 (put_segment closed gs) (changed final_row o rows) opened) (sym there.1)
         (passed_by opened v0 v1 gs (put_segment closed gs) rows (put_row (final_row there.0) rows) o
         (find-put_other opened closed gs (λ same. ne (sym (find-start start gs g known) ∙ same)))
-        (find_put_other opened (final_row there.0) rows (λ same. ne (sym row_start ∙ same)))
+        (find_put_other by_rows opened (final_row there.0) rows (λ same. ne (sym row_start ∙ same)))
         (others o.segment o.row.whole_length (λ same. ne (sym same ∙ find-start opened gs o.segment o.known)) o.appends)))
 
   spared : (d : DurableEffect) → IsDue gs rows r d → Spares (Some opened) d
@@ -234,14 +236,14 @@ module _ (r : Request) (v0 v1 : View) (gs : List Segment) (rows : List SegmentRo
   spared (durable.Commit txid) due spares others behind o = passed_by opened v0 v1 gs gs rows rows o refl refl (others o.segment o.row.whole_length tt o.appends)
   spared (durable.NewSegment start epoch) due ne others behind o =
       passed_by opened v0 v1 gs (put_segment (empty_segment start epoch) gs) rows (put_row (begun_row start epoch) rows) o
-      (find-put_other opened (empty_segment start epoch) gs ne) (find_put_other opened (begun_row start epoch) rows ne)
+      (find-put_other opened (empty_segment start epoch) gs ne) (find_put_other by_rows opened (begun_row start epoch) rows ne)
       (others o.segment o.row.whole_length (λ same. ne (sym same ∙ find-start opened gs o.segment o.known)) o.appends)
   spared (durable.Append start at) due spares others behind o = append_keeps start at due behind others o
   spared (durable.Replace epoch again) due spares others behind o = absurd spares
   spared (durable.MakeFinal start end accepted) due ne others behind o = final_keeps start due.segment due.known ne o others
   spared (durable.Remove info) due ne others behind o =
       passed_by opened v0 v1 gs (segments_after gs (effect_of r (durable.Remove info))) rows (rows_after r (durable.Remove info) 0 rows) o
-      (find-remove_other opened info.start gs ne) (find_remove_other info.start opened rows (λ same. ne (sym same)))
+      (find-remove_other opened info.start gs ne) (find_without_other by_rows opened info.start rows ne)
       (others o.segment o.row.whole_length (λ same. ne (sym same ∙ find-start opened gs o.segment o.known)) o.appends)
 
   opens_now : (d : DurableEffect) → Opens (Some opened) d → AppendsAfter v1 gs r d → AppendsTo v1 (segments_after gs (effect_of r d)) (rows_after r d (place_after r d) rows) opened

@@ -11,6 +11,7 @@ use Rattle.base_disk.specs.Calls.{HasCause}
 use Rattle.base_disk.specs.Runs.{joined, weaker}
 use Rattle.base_disk.specs.Moments.{started}
 use Rattle.base_disk.specs.declared.disk.DiskFail.{DiskFail}
+use Rattle.base_disk.proofs.Causes.{none_at_ok}
 use Rattle.journal_core.specs.declared.cut.Cut.{Cut}
 use Rattle.journal_core.specs.declared.segment.Segment.{Segment}
 use Rattle.journal_core.specs.declared.node_state.NodeState.{NodeState}
@@ -59,9 +60,8 @@ pub record IsUnderWay (told tells : Type 0) (v0 v : View) (m0 m : NodeState) (ro
   pub noted : (gs : List Segment) × Tells gs rows × AreDue gs rows r later
   pub memory : m ≡ state_with (after_effects m0 (effects_by r done)) m0.segments
   pub so_far : told → (s : NodeState) (can : CanDoAll v0 m0 rows0 s r ds) → SoFar v0 v m rows0 rows s r ds done later can.open_ left0 left
-  pub risen : f0 ≤ f
+  pub same : f ≡ f0
   pub steady : was_steady → is_steady
-  pub same : was_steady → f ≡ f0
 
 -- ## The first effects
 pub front_is : (r : Request) (ds done later : List DurableEffect) → ds ≡ done ++ later → take (length done) (effects_by r ds) ≡ effects_by r done
@@ -148,9 +148,8 @@ module _ {told : Type 0} {v0 : View} {m0 : NodeState} {rows0 : List SegmentRow} 
       opened = λ o is. is;
       costs = λ keep. record { keep = keep; same = λ cut. refl; passed = λ cut. passed_none left0 };
     };
-    risen = omega arith;
+    same = refl;
     steady = λ is. is;
-    same = λ is. refl;
   }
 
 -- ## One more
@@ -235,9 +234,8 @@ module _ {told tells : Type 0} {v0 v : View} {m0 m : NodeState} {rows0 rows : Li
         let able = can_now v0 v m rows0 rows s r ds done d later can.open_ left0 left way.all so in
         one_more v0 v m rows0 rows s r ds done d later can.open_ left0 left way.all so result v1 (effect now so.state able) left1 (counts now so.state able) ok m1 rows1 is
         (held now so.state able) (λ o. opened now so.state o able);
-    risen = omega (arith, way.risen, cause.later);
+    same = none_at_ok f f1 is_steady steady1 result cause ok ∙ way.same;
     steady = λ was. cause.steady (way.steady was);
-    same = λ was. cause.same (way.steady was) ∙ way.same was;
   }
 
 -- ## The place of a loop

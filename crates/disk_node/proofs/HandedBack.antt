@@ -3,7 +3,9 @@ use Rattle.std.proofs.Common.{◌≡◌, Bool, List, true, false, refl, sym, sub
 use Rattle.base_disk.specs.Files.{Files}
 use Rattle.base_disk.specs.View.{View, AllLeave}
 use Rattle.journal_core.specs.declared.node_state.NodeState.{NodeState}
+use Rattle.journal_core.specs.Segments.{AreSound}
 use Rattle.journal_core.specs.Step.{crashed}
+use Rattle.disk_segment.specs.RowsTell.{AreStarts}
 use Rattle.disk_segment.specs.declared.segment_row.SegmentRow.{SegmentRow}
 use Rattle.disk_files.specs.declared.node_number.NodeNumber.TheVariants.{Promised, Writer, Committed}
 use Rattle.disk_files.specs.Durable.{HaveNumbers, StandsAs}
@@ -39,3 +41,9 @@ module _ (A : Type 0) (v : View) (m : NodeState) (rows : List SegmentRow) (now :
   crashes_stand up =
       subst (λ (t : NodeState). AllLeave v (λ c. StandsAs c t)) (sym told)
       (stands_now v (node.stands tells).0 (up_of v m rows (node.stands tells).0 up (node.stands tells).1).held.files)
+
+  -- of a node that is up, the segments are sound, and each start is from 1 to 2 ^ 62
+  pub are_sound : m.up ≡ true → AreSound (state_of v.seen m rows).segments × AreStarts (state_of v.seen m rows).segments
+  are_sound up =
+      subst (λ (t : NodeState). AreSound t.segments × AreStarts t.segments) (sym told)
+      (let is = up_of v m rows (node.stands tells).0 up (node.stands tells).1 in (is.held.sound, is.held.told.starts))

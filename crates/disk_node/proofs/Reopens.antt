@@ -1,11 +1,12 @@
 -- A node that comes up again has the state that it had.
 use Rattle.std.proofs.Common.{inl, inr, ⊎_elim, ℕ, ◌≡◌, ◌⊎◌, ◌↔◌, ◌≤◌, ◌<◌, ◌^◌, ◌++◌, Bool, true, false, not, cond, List, [], ◌∷◌, Some, None, refl, sym, ap, subst, ◌∙◌, arith}
 use Rattle.std.proofs.lemmas.Bool.Decides.{eqb_tells}
+use Rattle.base_words.proofs.StartLaws.{find_here, find_on, found_above}
 use Rattle.base_disk.specs.Files.{Files}
 use Rattle.base_disk.specs.View.{View}
 use Rattle.journal_core.specs.declared.segment.Segment.{Segment}
 use Rattle.journal_core.specs.declared.node_state.NodeState.{NodeState}
-use Rattle.journal_core.specs.Segments.{find_segment, has_edit, AreAbove, AreRising, AreSound}
+use Rattle.journal_core.specs.Segments.{find_segment, has_edit, AreRising, AreSound}
 use Rattle.journal_core.specs.Step.{restarted}
 use Rattle.disk_segment.specs.Rows.{find_row}
 use Rattle.disk_segment.specs.declared.segment_row.SegmentRow.{SegmentRow}
@@ -18,7 +19,7 @@ use Rattle.disk_files.specs.Durable.{number_of, number_name, StandsAs, AreFilled
 use Rattle.std.specs.Prelude.{Result, Ok}
 use Rattle.journal_core.specs.declared.node_fail.NodeFail.{NodeFail}
 use Rattle.journal_core.specs.Stops.{Restarts}
-use Rattle.journal_core.proofs.SegmentLists.{found_above}
+use Rattle.journal_core.proofs.PlaceLaws.{by_segments}
 use Rattle.disk_files.specs.declared.files.NodeFiles.{NodeFiles}
 use Rattle.disk_files.specs.Opening.{IsUnfilled, IsFirstBad, HoldsFiles}
 use Rattle.disk_node.proofs.NodeOpens.{memory_in, files_up}
@@ -38,21 +39,14 @@ row_start start (x ∷ rows) row starts there =
       | inr p ↦ row_start start rows row starts.1 (sym (rw p.0 refl) ∙ there)
     ]
 
-head_found : (g : Segment) (gs : List Segment) → find_segment g.start (g ∷ gs) ≡ Some g
-unfolding find_segment
-head_found g gs = elim (eqb_tells g.start g.start) [ inl p ↦ rw p.0 refl | inr p ↦ absurd (p.1 refl) ]
-
-tail_found : (g : Segment) (gs : List Segment) (start : ℕ) (h : Segment) → AreAbove g.start gs → find_segment start gs ≡ Some h → find_segment start (g ∷ gs) ≡ Some h
-unfolding find_segment
-tail_found g gs start h above known =
-    elim (eqb_tells g.start start) [
-      | inl p ↦ absurd (let l : g.start < start = found_above g.start start gs h above known in omega (arith, p.1, l))
-      | inr p ↦ rw p.0 known
-    ]
-
 starts_by : (gs : List Segment) → AreRising gs → ((start : ℕ) (g : Segment) → find_segment start gs ≡ Some g → (1 ≤ start) × (start ≤ 2 ^ 62)) → AreStarts gs
 starts_by [] rise there = tt
-starts_by (g ∷ gs) rise there = (there g.start g (head_found g gs), starts_by gs rise.1 (λ start h known. there start h (tail_found g gs start h rise.0 known)))
+starts_by (g ∷ gs) rise there = (
+  there g.start g (find_here by_segments g.start g gs refl),
+  starts_by gs rise.1 (λ start h known.
+      let above : g.start < start = found_above by_segments g.start start gs h rise.0 known in
+      there start h (find_on by_segments start g gs (λ same. omega (arith, above, same)) ∙ known)),
+)
 
 -- what the table covers starts from 1 to 2^62
 left_starts : (files : Files) (rows : List SegmentRow) (s : NodeState) → AreRowStarts rows → IsLeft files rows s → AreStarts s.segments

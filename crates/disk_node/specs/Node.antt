@@ -11,12 +11,13 @@ use Rattle.journal_core.specs.declared.refusal.Refusal.TheVariants.{DiskFault, O
 use Rattle.journal_core.specs.declared.reply.Reply.{Reply}
 use Rattle.journal_core.specs.declared.reply.Reply.TheVariants.{Refused}
 use Rattle.journal_core.specs.declared.request.Request.TheVariants.{Accept}
-use Rattle.journal_core.specs.Segments.{any_body}
+use Rattle.journal_core.specs.Segments.{any_body, AreSound}
 use Rattle.journal_core.specs.Limits.{max_number}
 use Rattle.journal_core.specs.Effects.{after_effects}
 use Rattle.journal_core.specs.Step.{crashed, fronted, row_refused, row_then, row_reply, effects_of}
 use Rattle.journal_core.specs.Answers.{Rose}
 use Rattle.disk_segment.specs.Rows.{RowsRise}
+use Rattle.disk_segment.specs.RowsTell.{AreStarts}
 use Rattle.disk_segment.specs.declared.segment_row.SegmentRow.{SegmentRow}
 use Rattle.disk_files.specs.Durable.{AreFilled}
 use Rattle.disk_effects.specs.Told.{Tells}
@@ -117,3 +118,7 @@ pub record IsUnchanged (tells : Type 0) (old_view new_view : View) (old_memory n
 pub record IsStoppedIn (v : View) (m : NodeState) (rows : List SegmentRow) (s : NodeState) (r : Request) : Type 0 where
   pub keep : ℕ
   pub down : IsDown v m rows (crashed (after_effects s (take keep (effects_of s r))))
+
+-- the segments of a state are sound, and each start is from 1 to 2 ^ 62
+abbrev pub AreSoundFrom : NodeState → Type 0
+AreSoundFrom s = AreSound s.segments × AreStarts s.segments

@@ -10,7 +10,7 @@ ghost use Rattle.disk_recent.specs.Recent.{nothing};
 ghost use Rattle.disk_node.specs.Acted.{IsActed};
 ghost use Rattle.disk_node.specs.FileState.{state_of};
 ghost use Rattle.disk_node.specs.Held.{StandsStopped};
-ghost use Rattle.disk_node.specs.Node.{IsUp, told_state};
+ghost use Rattle.disk_node.specs.Node.{IsUp, told_state, AreSoundFrom};
 ghost use Rattle.disk_node.specs.Opening.{StandsAsBefore};
 ghost use Rattle.disk_node.specs.Clauses.{HasMoments, IsStable, IsCached, ReadsNone, IsSpared};
 
@@ -60,6 +60,14 @@ impl<D: Disk> JournalNode<D> {
         let JournalNode { disk, memory } = self;
         drop(memory);
         disk
+    }
+
+    /// Does nothing. Of a node that is up, over a disk that tells its bytes, the segments are sound,
+    /// and each begins at 1 at least and at 2^62 at most.
+    pub fn has_sound_segments(&self)
+        ensures { D.tells self.now.disk → self.now.memory.up ≡ true → AreSoundFrom (state_of (D.view self.now.disk).seen self.now.memory self.now.rows) }
+    {
+        let _up = self.memory.numbers.up;
     }
 
     /// Answers one request. The reply is found before anything is done, and what the durable

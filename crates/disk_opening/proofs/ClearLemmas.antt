@@ -1,12 +1,11 @@
 -- How files are cleared one after the other.
-use Rattle.std.proofs.Common.{inl, inr, ⊎_elim, ◌⊎◌, ◌≡◌, ◌≢◌, ◌↔◌, ℕ, ◌≤◌, List, [], ◌∷◌, ◌++◌, ap, sym, ◌∙◌, refl, subst, arith}
-use Rattle.std.specs.Prelude.{Option, Some, None, IsSome, Contains, Result, IsErrOf}
+use Rattle.std.proofs.Common.{inl, inr, ⊎_elim, ◌⊎◌, ◌≡◌, ◌≢◌, ◌↔◌, ℕ, List, [], ◌∷◌, ◌++◌, ap, sym, ◌∙◌, refl, subst, arith}
+use Rattle.std.specs.Prelude.{Option, Some, None, IsSome, IsOk, Contains, Result}
 use Rattle.std.proofs.lemmas.List.Elements.{Contains-push, Contains-push_cases, Contains-append_left}
 use Rattle.base_disk.specs.Files.{Files}
 use Rattle.base_disk.specs.View.{View, IsSound}
 use Rattle.base_disk.specs.Calls.{Rests, Lists, HasCause}
 use Rattle.base_disk.specs.declared.disk.DiskFail.{DiskFail}
-use Rattle.base_disk.specs.declared.disk.DiskFail.TheVariants.{Failed}
 use Rattle.disk_segment.specs.Names.{Kind, InProgress, Final, UnderWay}
 use Rattle.disk_opening.specs.Opening.{SegmentsStable, IsTemporary}
 use Rattle.disk_opening.specs.Completing.{Mends, IsFinalFile, AreFinals, IsWay, IsProgress, IsLeftKind, IsLeftOver, NoName, Clears, ClearsAll}
@@ -14,7 +13,7 @@ use Rattle.disk_opening.proofs.RepairLemmas.{names_cases}
 use Rattle.disk_opening.proofs.MendLemmas.{mends_keeps, mends_then, one_kind}
 use Rattle.disk_opening.proofs.TemporaryLemmas.{not_temporary, tmp_temporary}
 use Rattle.disk_opening.proofs.TurnLemmas.{Turn, not_done, is_listed}
-use Rattle.base_disk.proofs.Rises.{rose_since}
+use Rattle.base_disk.proofs.Causes.{none_at_ok}
 
 -- the final files that are there stay
 pub finals_stay : (starts : List ℕ) (d c : Files) → ((name : List ℕ) (start : ℕ) → IsFinalFile name start → c name ≡ d name) → AreFinals starts d → AreFinals starts c
@@ -36,9 +35,8 @@ module _ (P Free : List ℕ → Type 0) where
     pub mends : told → SegmentsStable v0 → Mends v0 v
     pub listed : told → Lists names v0.seen
     pub cleared : told → Cleared done v0.seen v.seen
-    pub later : f0 ≤ f
+    pub same : f ≡ f0
     pub steady : was_steady → is_steady
-    pub same : was_steady → f ≡ f0
 
 module _ (P Free : List ℕ → Type 0) (apart : (name : List ℕ) → P name → Free name → ⊥) where
   cleared_none : (d : Files) → Cleared P Free [] d d
@@ -89,16 +87,15 @@ module _ (P Free : List ℕ → Type 0) (apart : (name : List ℕ) → P name �
 
   module _ (told : Type 0) (v0 : View) (sound : told → IsSound v0) (names : List (List ℕ)) (f0 : ℕ) (was_steady : Type 0) where
     pub begun : {T : Type 0} (tells : Type 0) (v : View) (f : ℕ) (is_steady : Type 0) (r : Result T DiskFail) → told ↔ tells → (told → Rests v0 v)
-        → (told → Lists names v0.seen) → HasCause f0 f was_steady is_steady r
+        → (told → Lists names v0.seen) → HasCause f0 f was_steady is_steady r → IsOk r
         → IsClearing P Free told tells v0 v names [] f0 f was_steady is_steady
-    begun tells v f is_steady r on rests lists cause = record {
+    begun tells v f is_steady r on rests lists cause ok = record {
       tells_on = on;
       mends = λ t all. mends_keeps v0 v (sound t) (rests t).keeps all;
       listed = lists;
       cleared = λ t. subst (λ (files : Files). Cleared P Free [] v0.seen files) (sym (rests t).keeps.seen) (cleared_none v0.seen);
-      later = cause.later;
+      same = none_at_ok f0 f was_steady is_steady r cause ok;
       steady = cause.steady;
-      same = cause.same;
     }
 
     module _ (tells : Type 0) (v : View) (done : List (List ℕ)) (f : ℕ) (is_steady : Type 0) (so_far : IsClearing P Free told tells v0 v names done f0 f was_steady is_steady) where
@@ -121,16 +118,15 @@ module _ (P Free : List ℕ → Type 0) (apart : (name : List ℕ) → P name �
         mends_on : told → SegmentsStable v0 → Mends v0 v1
         mends_on t all = let first = so_far.mends t all in mends_then v0 v v1 first (mends (so_far.tells_on.0 t) first.stable)
 
-        pub one_more : (name : List ℕ) (next : List (List ℕ)) → next ≡ done ++ name ∷ [] → (tells → Clears P Free name v.seen v1.seen)
+        pub one_more : IsOk r → (name : List ℕ) (next : List (List ℕ)) → next ≡ done ++ name ∷ [] → (tells → Clears P Free name v.seen v1.seen)
             → IsClearing P Free told tells1 v0 v1 names next f0 f1 was_steady steady1
-        one_more name next is clears = record {
+        one_more ok name next is clears = record {
           tells_on = (λ t. on.0 (so_far.tells_on.0 t), λ t. so_far.tells_on.1 (on.1 t));
           mends = mends_on;
           listed = so_far.listed;
           cleared = λ t. subst (λ (l : List (List ℕ)). Cleared P Free l v0.seen v1.seen) (sym is) (cleared_more done name v0.seen v.seen v1.seen (so_far.cleared t) (clears (so_far.tells_on.0 t)));
-          later = omega (arith, so_far.later, cause.later);
+          same = none_at_ok f f1 is_steady steady1 r cause ok ∙ so_far.same;
           steady = λ s. cause.steady (so_far.steady s);
-          same = λ s. cause.same (so_far.steady s) ∙ so_far.same s;
         }
 
         pub given_up_mends : told → SegmentsStable v0 → Mends v0 v1
@@ -139,26 +135,8 @@ module _ (P Free : List ℕ → Type 0) (apart : (name : List ℕ) → P name �
         pub given_up_tells : told ↔ tells1
         given_up_tells = (λ t. on.0 (so_far.tells_on.0 t), λ t. so_far.tells_on.1 (on.1 t))
 
-        pub given_up_cause : {S : Type 0} (outer : Result S DiskFail) → (IsErrOf outer Failed → IsErrOf r Failed) → HasCause f0 f1 was_steady steady1 outer
-        given_up_cause outer carry = record {
-          later = omega (arith, so_far.later, cause.later);
-          failed = λ failed. rose_since f0 f f1 so_far.later (cause.failed (carry failed));
-          steady = λ s. cause.steady (so_far.steady s);
-          no_fault = λ s failed. cause.no_fault (so_far.steady s) (carry failed);
-          same = λ s. cause.same (so_far.steady s) ∙ so_far.same s;
-        }
-
       pub all_cleared : done ≡ names → told → ClearsAll P Free v0.seen v.seen
       all_cleared is t = cleared_all names v0.seen v.seen (so_far.listed t) (subst (λ (l : List (List ℕ)). Cleared P Free l v0.seen v.seen) is (so_far.cleared t))
-
-      pub going_cause : {S : Type 0} (r : Result S DiskFail) → (IsErrOf r Failed → ⊥) → HasCause f0 f was_steady is_steady r
-      going_cause r fine = record {
-        later = so_far.later;
-        failed = λ failed. absurd (fine failed);
-        steady = so_far.steady;
-        no_fault = λ s failed. fine failed;
-        same = so_far.same;
-      }
 
 -- the names of the two passes
 pub ways_apart : (name : List ℕ) → IsWay name → IsProgress name → ⊥

@@ -1,16 +1,17 @@
 -- How the files of segments are read one after the other.
-use Rattle.std.proofs.Common.{inl, inr, ◌⊎◌, ◌≡◌, ℕ, ◌+◌, ◌^◌, ◌<◌, ◌≤◌, List, [], ◌∷◌, length, Bool, true, false, cond, nat_lt, ◌==◌, refl, sym, ◌∙◌, ap, subst, arith}
+use Rattle.std.proofs.Common.{inl, inr, ◌⊎◌, ◌≡◌, ℕ, ◌+◌, ◌^◌, ◌<◌, ◌≤◌, List, [], length, Bool, true, false, refl, sym, ◌∙◌, ap, subst, arith}
 use Rattle.std.specs.Prelude.{Option, Some, None, IsSome, slice_index_or}
 use Rattle.std.specs.Ordering.{nat_cmp}
 use Rattle.std.specs.declared.cmp.Ordering.TheVariants.{Less}
 use Rattle.std.specs.Cmp.Lexicographic.{slice_cmp}
-use Rattle.std.proofs.lemmas.Bool.{cases_eq, cases_lt, cond_both}
+use Rattle.std.proofs.lemmas.Bool.{cases_eq, cases_lt}
 use Rattle.std.proofs.lemmas.Option.{same_Some}
+use Rattle.base_words.proofs.StartLaws.{put_all}
 use Rattle.base_disk.specs.Files.{Files}
 use Rattle.base_disk.specs.Calls.{Lists}
 use Rattle.journal_core.specs.declared.segment.Segment.{Segment}
 use Rattle.journal_core.specs.Segments.{find_segment, put_segment, end_of, AreSound}
-use Rattle.journal_core.proofs.PlaceLaws.{put_sound}
+use Rattle.journal_core.proofs.PlaceLaws.{by_segments, put_sound}
 use Rattle.journal_core.proofs.SegmentLists.{find-put_same}
 use Rattle.disk_frame.specs.Segments.{IsSegmentFile}
 use Rattle.disk_segment.specs.Names.{Kind, InProgress, Final, Record, UnderWay, Fresh, FreshRecord, name_of, kind_of, IsKind}
@@ -19,7 +20,7 @@ use Rattle.disk_opening.specs.Opening.{IsRepaired, IsFirst}
 use Rattle.disk_segment.specs.Rows.{find_row, put_row}
 use Rattle.disk_segment.specs.declared.segment_row.SegmentRow.{SegmentRow}
 use Rattle.disk_opening.specs.Opened.{IsFirstFinal, IsGoodFile, HoldsSegment, IsBadSegmentFile}
-use Rattle.disk_segment.specs.RowsTell.{IsRowOf, AreRowsOf, AreStarts}
+use Rattle.disk_segment.specs.RowsTell.{IsRowOf, AreRowsOf, IsStart, AreStarts}
 use Rattle.disk_opening.specs.OpenSteps.{IsAcceptedAs, IsReadAs, IsSegmentName, IsNoSegment, IsNewRow, IsFault, IsRefused, AreRead}
 use Rattle.disk_segment.proofs.FindLemmas.{find-put_other}
 use Rattle.disk_segment.proofs.EffectLaws.{none_is_not}
@@ -59,14 +60,6 @@ pub record IsReadTo (seen : Files) (names : List (List ℕ)) (i : ℕ) (rows : L
 find_none : (start : ℕ) (g : Segment) → find_segment start [] ≡ Some g → ⊥
 unfolding find_segment
 find_none start g is = absurd (cc)
-
-put_starts : (g : Segment) → (1 ≤ g.start) × (g.start ≤ 2 ^ 62) → (gs : List Segment) → AreStarts gs → AreStarts (put_segment g gs)
-unfolding put_segment
-put_starts g range [] are = (range, tt)
-put_starts g range (h ∷ gs) are =
-    cond_both (h.start == g.start) (g ∷ gs) (cond (nat_lt g.start h.start) (g ∷ h ∷ gs) (h ∷ put_segment g gs)) (λ xs. AreStarts xs)
-    (λ e. (range, are.1))
-    (λ e. cond_both (nat_lt g.start h.start) (g ∷ h ∷ gs) (h ∷ put_segment g gs) (λ xs. AreStarts xs) (λ f. (range, are)) (λ f. (are.0, put_starts g range gs are.1)))
 
 none_told : (seen : Files) (o : Option Segment) (p : Option SegmentRow) → IsFoundRow seen o p → p ≡ None → o ≡ None
 none_told seen None p found none = refl
@@ -215,7 +208,7 @@ module _ (seen : Files) (names : List (List ℕ)) (lists : Lists names seen) (re
     added row is = record {
       segments = put_segment g so_far.segments;
       sound = put_sound g so_far.segments (read_within seen is.start is.kind g row is.read) so_far.sound;
-      starts = put_starts g (subst (λ (n : ℕ). (1 ≤ n) × (n ≤ 2 ^ 62)) (sym is.read.start_is) (is.named.named.first, is.named.named.small)) so_far.segments so_far.starts;
+      starts = put_all by_segments IsStart g so_far.segments (subst (λ (n : ℕ). (1 ≤ n) × (n ≤ 2 ^ 62)) (sym is.read.start_is) (is.named.named.first, is.named.named.small)) so_far.starts;
       told = put_rows seen g row (row_of_read seen is.start is.kind g row is.read) so_far.segments rows so_far.told;
       each = λ j n lt inside at_j start kind named. elim (cases_eq j i) [
         | inl same ↦ current start kind (subst (λ (m : List ℕ). IsSegmentName m start kind) (nth_is names i n name within (subst (λ (k : ℕ). slice_index_or names k n ≡ n) same at_j) at) named)

@@ -1,6 +1,6 @@
 -- What a read of a record says of its file, and which record is the first bad one.
-use Rattle.std.proofs.Common.{inl, inr, ⊎_elim, ◌≡◌, ◌↔◌, ℕ, ◌≤◌, List, [], ◌∷◌, ◌++◌, ap, sym, ◌∙◌, refl, subst, arith, Bool, true, false}
-use Rattle.std.specs.Prelude.{Option, Some, None, IsSome, Contains, MatchBool, MatchOption, Result, Ok, Err, IfOk, IsErrOf, ◌==◌}
+use Rattle.std.proofs.Common.{inl, inr, ⊎_elim, ◌≡◌, ◌↔◌, ℕ, List, [], ◌∷◌, ◌++◌, ap, sym, ◌∙◌, refl, subst, arith, Bool, true, false}
+use Rattle.std.specs.Prelude.{Option, Some, None, IsSome, Contains, MatchBool, MatchOption, Result, Ok, Err, IfOk, IsOk, ◌==◌}
 use Rattle.std.specs.Option.{is_some}
 use Rattle.std.proofs.lemmas.Option.{same_Some}
 use Rattle.std.proofs.lemmas.Bool.Decides.{Decides-eqb}
@@ -9,7 +9,6 @@ use Rattle.base_disk.specs.Files.{Files}
 use Rattle.base_disk.specs.View.{View, IsSound}
 use Rattle.base_disk.specs.Calls.{Rests, Lists, HasCause}
 use Rattle.base_disk.specs.declared.disk.DiskFail.{DiskFail}
-use Rattle.base_disk.specs.declared.disk.DiskFail.TheVariants.{Failed}
 use Rattle.base_files.specs.Records.{IsRecord, paxos_name}
 use Rattle.base_files.specs.Records as records
 use Rattle.disk_segment.specs.Names.{Record, name_of}
@@ -19,7 +18,7 @@ use Rattle.disk_opening.specs.Opening.{IsBadRecordFile, IsFirst}
 use Rattle.disk_segment.proofs.AcceptLemmas.{record_name}
 use Rattle.disk_opening.proofs.TurnLemmas.{Turn, less_is_done}
 use Rattle.disk_segment.proofs.OneEpoch.{one_epoch}
-use Rattle.base_disk.proofs.Rises.{rose_since}
+use Rattle.base_disk.proofs.Causes.{none_at_ok}
 
 module _ (start : ℕ) (files : Files) where
   pub found_epoch : (epoch end : ℕ) → (bytes : List ℕ) × (files (paxos_name start) ≡ Some bytes) × IsRecord bytes (record { epoch = epoch; end = end }) → HasEpoch (files (name_of start Record)) epoch
@@ -86,22 +85,20 @@ pub record IsRead (told tells : Type 0) (v0 v : View) (names done : List (List �
   pub rests : told → Rests v0 v
   pub listed : told → Lists names v0.seen
   pub good : told → (name : List ℕ) → Contains done name → IsBadRecordFile v0.seen name → ⊥
-  pub later : f0 ≤ f
+  pub same : f ≡ f0
   pub steady : was_steady → is_steady
-  pub same : was_steady → f ≡ f0
 
 module _ (told : Type 0) (v0 : View) (sound : told → IsSound v0) (names : List (List ℕ)) (f0 : ℕ) (was_steady : Type 0) where
   pub begun : {T : Type 0} (tells : Type 0) (v : View) (f : ℕ) (is_steady : Type 0) (r : Result T DiskFail) → told ↔ tells → (told → Rests v0 v)
-      → (told → Lists names v0.seen) → HasCause f0 f was_steady is_steady r
+      → (told → Lists names v0.seen) → HasCause f0 f was_steady is_steady r → IsOk r
       → IsRead told tells v0 v names [] f0 f was_steady is_steady
-  begun tells v f is_steady r on rests lists cause = record {
+  begun tells v f is_steady r on rests lists cause ok = record {
     tells_on = on;
     rests = rests;
     listed = lists;
     good = λ t name among bad. absurd (omega (arith, among.1));
-    later = cause.later;
+    same = none_at_ok f0 f was_steady is_steady r cause ok;
     steady = cause.steady;
-    same = cause.same;
   }
 
   module _ (tells : Type 0) (v : View) (done : List (List ℕ)) (f : ℕ) (is_steady : Type 0) (so_far : IsRead told tells v0 v names done f0 f was_steady is_steady) where
@@ -113,29 +110,20 @@ module _ (told : Type 0) (v0 : View) (sound : told → IsSound v0) (names : List
       pub now_rests : told → Rests v0 v1
       now_rests t = rests_on v0 v v1 (sound t) (so_far.rests t) (rests (so_far.tells_on.0 t))
 
-      pub now_cause : {S : Type 0} (outer : Result S DiskFail) → (IsErrOf outer Failed → IsErrOf r Failed) → HasCause f0 f1 was_steady steady1 outer
-      now_cause outer carry = record {
-        later = omega (arith, so_far.later, cause.later);
-        failed = λ failed. rose_since f0 f f1 so_far.later (cause.failed (carry failed));
-        steady = λ s. cause.steady (so_far.steady s);
-        no_fault = λ s failed. cause.no_fault (so_far.steady s) (carry failed);
-        same = λ s. cause.same (so_far.steady s) ∙ so_far.same s;
-      }
-
       at_start : (P : Files → Type 0) → told → P v.seen → P v0.seen
       at_start P t is = subst P (so_far.rests t).keeps.seen is
 
-      pub one_more : (name : List ℕ) (next : List (List ℕ)) → next ≡ done ++ name ∷ [] → (tells → IsBadRecordFile v.seen name → ⊥) → IsRead told tells1 v0 v1 names next f0 f1 was_steady steady1
-      one_more name next is good = record {
+      pub one_more : IsOk r → (name : List ℕ) (next : List (List ℕ)) → next ≡ done ++ name ∷ [] → (tells → IsBadRecordFile v.seen name → ⊥)
+          → IsRead told tells1 v0 v1 names next f0 f1 was_steady steady1
+      one_more ok name next is good = record {
         tells_on = now_tells;
         rests = now_rests;
         listed = so_far.listed;
         good = λ t other among bad. ⊎_elim (λ before. so_far.good t other before bad)
             (λ same. here t (subst (λ (n : List ℕ). IsBadRecordFile v0.seen n) (sym same) bad))
             (Contains-push_cases done name other (subst (λ (l : List (List ℕ)). Contains l other) is among));
-        later = omega (arith, so_far.later, cause.later);
+        same = none_at_ok f f1 is_steady steady1 r cause ok ∙ so_far.same;
         steady = λ s. cause.steady (so_far.steady s);
-        same = λ s. cause.same (so_far.steady s) ∙ so_far.same s;
       }
         where
           here : told → IsBadRecordFile v0.seen name → ⊥
@@ -149,15 +137,6 @@ module _ (told : Type 0) (v0 : View) (sound : told → IsSound v0) (names : List
 
     pub all_good : done ≡ names → told → (name : List ℕ) → IsBadRecordFile v0.seen name → ⊥
     all_good is t name bad = so_far.good t name (subst (λ (l : List (List ℕ)). Contains l name) (sym is) ((so_far.listed t).all name (bad_there v0.seen name bad))) bad
-
-    pub going_cause : {S : Type 0} (r : Result S DiskFail) → (IsErrOf r Failed → ⊥) → HasCause f0 f was_steady is_steady r
-    going_cause r fine = record {
-      later = so_far.later;
-      failed = λ failed. absurd (fine failed);
-      steady = so_far.steady;
-      no_fault = λ s failed. fine failed;
-      same = so_far.same;
-    }
 
 pub ok_told : (r : Result Bool DiskFail) (b : Bool) (P Q : Type 0) → r ≡ Ok b → MatchBool b P Q → IfOk r (λ x. MatchBool x P Q)
 ok_told r b P Q is told = subst (λ (o : Result Bool DiskFail). IfOk o (λ x. MatchBool x P Q)) (sym is) told

@@ -1,17 +1,16 @@
 -- The loop that removes records.
-use Rattle.std.proofs.Common.{◌≡◌, ◌↔◌, ℕ, ◌+◌, ◌<◌, ◌≤◌, List, length, refl, sym, ◌∙◌, subst, arith}
-use Rattle.std.specs.Prelude.{IsSome, IsOk, Result, IsErrOf, slice_index_or}
+use Rattle.std.proofs.Common.{◌≡◌, ◌↔◌, ℕ, ◌+◌, ◌<◌, ◌≤◌, List, length, refl, sym, ◌∙◌, subst}
+use Rattle.std.specs.Prelude.{IsSome, IsOk, Result, slice_index_or}
 use Rattle.base_disk.specs.View.{View, IsSound}
 use Rattle.base_disk.specs.Calls.{Lists, HasCause}
 use Rattle.base_disk.specs.Runs.{Quiet}
 use Rattle.base_disk.specs.declared.disk.DiskFail.{DiskFail}
-use Rattle.base_disk.specs.declared.disk.DiskFail.TheVariants.{Failed}
 use Rattle.disk_opening.specs.Opening.{SegmentsStable, Repairs, IsRepaired}
 use Rattle.disk_opening.specs.Opened.{AreOpened}
 use Rattle.disk_segment.specs.declared.segment_row.SegmentRow.{SegmentRow}
 use Rattle.disk_opening.specs.OpenSteps.{RemovesIdle, AreRead}
 use Rattle.disk_opening.proofs.OpenRemoves.{IsLess, less_repaired, IsRemovedTo, nothing_removed, removed_more, next_there, all_opened, step_less, step_stable, step_quiet, repairs_nothing}
-use Rattle.base_disk.proofs.Rises.{rose_since}
+use Rattle.base_disk.proofs.Causes.{none_at_ok}
 
 pub record IsRemoving (told tells : Type 0) (v0 v : View) (rows : List SegmentRow) (names : List (List ℕ)) (i : ℕ) (f0 f : ℕ) (was_steady is_steady : Type 0) : Type 0 where
   pub tells_on : told ↔ tells
@@ -19,9 +18,8 @@ pub record IsRemoving (told tells : Type 0) (v0 v : View) (rows : List SegmentRo
   pub less : told → IsLess rows v0.seen v.seen
   pub stable : told → SegmentsStable v0 → SegmentsStable v
   pub quiet : told → SegmentsStable v0 → IsRepaired v0.seen → AreRead v0.seen rows → Quiet Repairs v0 v
-  pub later : f0 ≤ f
+  pub same : f ≡ f0
   pub steady : was_steady → is_steady
-  pub same : was_steady → f ≡ f0
 
 module _ (told : Type 0) (v0 : View) (sound0 : told → IsSound v0) (rows : List SegmentRow) (names : List (List ℕ)) (f0 : ℕ) (was_steady : Type 0) where
   pub begun : IsRemoving told told v0 v0 rows names 0 f0 f0 was_steady was_steady
@@ -31,9 +29,8 @@ module _ (told : Type 0) (v0 : View) (sound0 : told → IsSound v0) (rows : List
     less = λ t. (nothing_removed rows v0.seen names).less;
     stable = λ t stable. stable;
     quiet = λ t stable repaired read. repairs_nothing v0 (sound0 t);
-    later = omega arith;
+    same = refl;
     steady = λ s. s;
-    same = λ s. refl;
   }
 
   module _ (tells : Type 0) (v : View) (sound : tells → IsSound v) (i : ℕ) (f : ℕ) (is_steady : Type 0) (so_far : IsRemoving told tells v0 v rows names i f0 f was_steady is_steady) where
@@ -72,18 +69,8 @@ module _ (told : Type 0) (v0 : View) (sound0 : told → IsSound v0) (rows : List
           less = less_still;
           stable = stable_still;
           quiet = quiet_still;
-          later = omega (arith, so_far.later, cause.later);
+          same = none_at_ok f f1 is_steady steady1 r cause ok ∙ so_far.same;
           steady = λ s. cause.steady (so_far.steady s);
-          same = λ s. cause.same (so_far.steady s) ∙ so_far.same s;
-        }
-
-        pub given_up_cause : {S : Type 0} (outer : Result S DiskFail) → (IsErrOf outer Failed → IsErrOf r Failed) → HasCause f0 f1 was_steady steady1 outer
-        given_up_cause outer carry = record {
-          later = omega (arith, so_far.later, cause.later);
-          failed = λ failed. rose_since f0 f f1 so_far.later (cause.failed (carry failed));
-          steady = λ s. cause.steady (so_far.steady s);
-          no_fault = λ s failed. cause.no_fault (so_far.steady s) (carry failed);
-          same = λ s. cause.same (so_far.steady s) ∙ so_far.same s;
         }
 
     pub repaired_so_far : told → IsRepaired v0.seen → IsRepaired v.seen
@@ -93,12 +80,3 @@ module _ (told : Type 0) (v0 : View) (sound0 : told → IsSound v0) (rows : List
     opened all t stable repaired lists read =
         all_opened rows v0.seen names lists i all v (so_far.removed t lists) read (so_far.stable t stable) (repaired_so_far t repaired).tidy
         ((so_far.quiet t stable repaired read).seen.segments read.segments read.stands)
-
-    pub going_cause : {S : Type 0} (r : Result S DiskFail) → (IsErrOf r Failed → ⊥) → HasCause f0 f was_steady is_steady r
-    going_cause r fine = record {
-      later = so_far.later;
-      failed = λ failed. absurd (fine failed);
-      steady = so_far.steady;
-      no_fault = λ s failed. fine failed;
-      same = so_far.same;
-    }

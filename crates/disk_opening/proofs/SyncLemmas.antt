@@ -1,15 +1,14 @@
 -- How files become stable one after the other.
 use Rattle.std.proofs.Common.{◌≡◌, ◌↔◌, ℕ, zero, suc, length, ◌+◌, ◌<◌, ◌≤◌, List, [], ◌∷◌, ◌++◌, ap, sym, ◌∙◌, refl, subst, arith, get_or, take}
-use Rattle.std.specs.Prelude.{Option, Some, None, IsSome, Contains, slice_index_or, map, Result, IsErrOf}
+use Rattle.std.specs.Prelude.{Option, Some, None, IsSome, IsOk, Contains, slice_index_or, map, Result}
 use Rattle.std.proofs.lemmas.List.{take_more, take_all, map-append, length-map}
 use Rattle.base_disk.specs.Files.{Files, IsSame, ChangesOnly}
 use Rattle.base_disk.specs.View.{View, IsSound, IsStable}
 use Rattle.base_disk.specs.Calls.{Keeps, Rests, Lists, HasCause}
 use Rattle.base_disk.specs.Runs.{Quiet, quiet_start, quiet_keeps}
 use Rattle.base_disk.specs.declared.disk.DiskFail.{DiskFail}
-use Rattle.base_disk.specs.declared.disk.DiskFail.TheVariants.{Failed}
 use Rattle.disk_opening.specs.Opening.{IsLastingFile, Settled, SegmentsStable, SyncsOnly}
-use Rattle.base_disk.proofs.Rises.{rose_since}
+use Rattle.base_disk.proofs.Causes.{none_at_ok}
 
 abbrev pub AllSettled : View → List (List ℕ) → Type 0
 AllSettled v [] = Unit {0}
@@ -37,40 +36,37 @@ pub record IsSynced (told tells : Type 0) (v0 v : View) (names done : List (List
   pub listed : told → Lists names v.seen
   pub settled : told → AllSettled v done
   pub spared : told → SyncsOnly IsLastingFile v0 v
-  pub later : f0 ≤ f
+  pub same : f ≡ f0
   pub steady : was_steady → is_steady
-  pub same : was_steady → f ≡ f0
 
 module _ (told : Type 0) (v0 : View) (sound : told → IsSound v0) (names : List (List ℕ)) (f0 : ℕ) (was_steady : Type 0) where
   pub begun : {T : Type 0} (tells : Type 0) (v : View) (f : ℕ) (is_steady : Type 0) (r : Result T DiskFail) → told ↔ tells → (told → Rests v0 v)
-      → (told → Lists names v0.seen) → HasCause f0 f was_steady is_steady r
+      → (told → Lists names v0.seen) → HasCause f0 f was_steady is_steady r → IsOk r
       → IsSynced told tells v0 v names [] f0 f was_steady is_steady
-  begun tells v f is_steady r on rests lists cause = record {
+  begun tells v f is_steady r on rests lists cause ok = record {
     tells_on = on;
     quiet = λ t. quiet_keeps IsSame v0 v0 v (same_quiet v0 (sound t)) (rests t).keeps;
     listed = λ t. subst (λ (files : Files). Lists names files) (sym (rests t).keeps.seen) (lists t);
     settled = λ t. tt;
     spared = λ t name not. ap (λ (files : Files). files name) (rests t).synced;
-    later = cause.later;
+    same = none_at_ok f0 f was_steady is_steady r cause ok;
     steady = cause.steady;
-    same = cause.same;
   }
 
   module _ (tells : Type 0) (v : View) (done : List (List ℕ)) (f : ℕ) (is_steady : Type 0) (so_far : IsSynced told tells v0 v names done f0 f was_steady is_steady)
       {T : Type 0} (tells1 : Type 0) (v1 : View) (f1 : ℕ) (steady1 : Type 0) (r : Result T DiskFail) (on : tells ↔ tells1)
       (keeps : tells → Keeps v v1) (cause : HasCause f f1 is_steady steady1 r) where
-    pub one_more : (name : List ℕ) (next : List (List ℕ)) → next ≡ done ++ name ∷ [] → (tells → Settled v1 name)
+    pub one_more : IsOk r → (name : List ℕ) (next : List (List ℕ)) → next ≡ done ++ name ∷ [] → (tells → Settled v1 name)
         → (tells → SyncsOnly IsLastingFile v v1) → IsSynced told tells1 v0 v1 names next f0 f1 was_steady steady1
-    one_more name next is settled spared = record {
+    one_more ok name next is settled spared = record {
       tells_on = (λ t. on.0 (so_far.tells_on.0 t), λ t. so_far.tells_on.1 (on.1 t));
       quiet = λ t. quiet_keeps IsSame v0 v v1 (so_far.quiet t) (keeps (so_far.tells_on.0 t));
       listed = λ t. subst (λ (files : Files). Lists names files) (sym (keeps (so_far.tells_on.0 t)).seen) (so_far.listed t);
       settled = λ t. subst (λ (l : List (List ℕ)). AllSettled v1 l) (sym is)
           (settled_push v1 done name (settled_stays v v1 done (keeps (so_far.tells_on.0 t)) (so_far.settled t)) (settled (so_far.tells_on.0 t)));
       spared = λ t other not. spared (so_far.tells_on.0 t) other not ∙ so_far.spared t other not;
-      later = omega (arith, so_far.later, cause.later);
+      same = none_at_ok f f1 is_steady steady1 r cause ok ∙ so_far.same;
       steady = λ s. cause.steady (so_far.steady s);
-      same = λ s. cause.same (so_far.steady s) ∙ so_far.same s;
     }
 
     pub given_up_quiet : told → Quiet IsSame v0 v1
@@ -78,26 +74,6 @@ module _ (told : Type 0) (v0 : View) (sound : told → IsSound v0) (names : List
 
     pub given_up_tells : told ↔ tells1
     given_up_tells = (λ t. on.0 (so_far.tells_on.0 t), λ t. so_far.tells_on.1 (on.1 t))
-
-    pub given_up_cause : {S : Type 0} (outer : Result S DiskFail) → (IsErrOf outer Failed → IsErrOf r Failed) → HasCause f0 f1 was_steady steady1 outer
-    given_up_cause outer carry = record {
-      later = omega (arith, so_far.later, cause.later);
-      failed = λ failed. rose_since f0 f f1 so_far.later (cause.failed (carry failed));
-      steady = λ s. cause.steady (so_far.steady s);
-      no_fault = λ s failed. cause.no_fault (so_far.steady s) (carry failed);
-      same = λ s. cause.same (so_far.steady s) ∙ so_far.same s;
-    }
-
-  pub going_cause : {S : Type 0} (tells : Type 0) (v : View) (done : List (List ℕ)) (f : ℕ) (is_steady : Type 0)
-      → IsSynced told tells v0 v names done f0 f was_steady is_steady → (r : Result S DiskFail) → (IsErrOf r Failed → ⊥)
-      → HasCause f0 f was_steady is_steady r
-  going_cause tells v done f is_steady so_far r fine = record {
-    later = so_far.later;
-    failed = λ failed. absurd (fine failed);
-    steady = so_far.steady;
-    no_fault = λ s failed. fine failed;
-    same = so_far.same;
-  }
 
 -- the names of a list, one after the other
 module _ {X : Type 0} (f : X → List ℕ) where

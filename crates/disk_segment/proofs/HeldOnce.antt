@@ -3,10 +3,11 @@ use Rattle.std.proofs.Common.{inl, inr, ◌⊎◌, ◌≡◌, ◌≢◌, ℕ, �
 use Rattle.std.specs.Prelude.{Option, Some, None}
 use Rattle.std.proofs.lemmas.Bool.{cases_eq, cases_lt}
 use Rattle.std.proofs.lemmas.Option.{same_Some}
+use Rattle.base_words.proofs.StartLaws.{Above-mono, find_here, find_on, find_above}
 use Rattle.base_disk.specs.Files.{Files}
 use Rattle.journal_core.specs.declared.segment.Segment.{Segment}
 use Rattle.journal_core.specs.Segments.{find_segment, AreAbove, AreRising}
-use Rattle.journal_core.proofs.PlaceLaws.{find_here, find_on, find_above, AreAbove-mono}
+use Rattle.journal_core.proofs.PlaceLaws.{by_segments}
 use Rattle.disk_frame.specs.Segments.{IsSegmentFile}
 use Rattle.disk_frame.proofs.SegmentLaws.{one_segment}
 use Rattle.disk_segment.specs.Names.{Final, Record, UnderWay}
@@ -102,7 +103,7 @@ none_some o g none some = let p = sym none ∙ some in absurd (cc)
 
 -- the first of one list is found in the other only where that doesn't begin above it
 not_above : (g : Segment) (gs hs : List Segment) → find_segment g.start (g ∷ gs) ≡ find_segment g.start hs → AreAbove g.start hs → ⊥
-not_above g gs hs same above = none_some (find_segment g.start hs) g (find_above g.start hs above) (sym same ∙ find_here g.start g gs refl)
+not_above g gs hs same above = none_some (find_segment g.start hs) g (find_above by_segments g.start hs above) (sym same ∙ find_here by_segments g.start g gs refl)
 
 pub one_list : (gs hs : List Segment) → AreRising gs → AreRising hs → AreStarts gs → AreStarts hs → ((start : ℕ) → 1 ≤ start → start ≤ 2 ^ 62 → find_segment start gs ≡ find_segment start hs) → gs ≡ hs
 one_list [] [] r s a b same = refl
@@ -110,13 +111,13 @@ one_list [] (h ∷ hs) r s a b same = absurd (not_above h hs [] (sym (same h.sta
 one_list (g ∷ gs) [] r s a b same = absurd (not_above g gs [] (same g.start a.0.0 a.0.1) tt)
 one_list (g ∷ gs) (h ∷ hs) r s a b same = elim (cases_eq g.start h.start) [
   | inl starts ↦
-      let first : g ≡ h = same_Some g h (sym (find_here g.start g gs refl) ∙ same g.start a.0.0 a.0.1 ∙ find_here g.start h hs (sym starts)) in
+      let first : g ≡ h = same_Some g h (sym (find_here by_segments g.start g gs refl) ∙ same g.start a.0.0 a.0.1 ∙ find_here by_segments g.start h hs (sym starts)) in
       λ i. first i ∷ one_list gs hs r.1 s.1 a.1 b.1 (λ start low high. elim (cases_eq g.start start) [
-        | inl at ↦ find_above start gs (subst (λ (n : ℕ). AreAbove n gs) at r.0) ∙ sym (find_above start hs (subst (λ (n : ℕ). AreAbove n hs) (sym starts ∙ at) s.0))
-        | inr ne ↦ sym (find_on start g gs ne) ∙ same start low high ∙ find_on start h hs (λ at. ne (starts ∙ at))
+        | inl at ↦ find_above by_segments start gs (subst (λ (n : ℕ). AreAbove n gs) at r.0) ∙ sym (find_above by_segments start hs (subst (λ (n : ℕ). AreAbove n hs) (sym starts ∙ at) s.0))
+        | inr ne ↦ sym (find_on by_segments start g gs ne) ∙ same start low high ∙ find_on by_segments start h hs (λ at. ne (starts ∙ at))
       ]) i
   | inr ne ↦ elim (cases_lt g.start h.start) [
-    | inl lt ↦ absurd (not_above g gs (h ∷ hs) (same g.start a.0.0 a.0.1) (lt, AreAbove-mono g.start h.start hs (omega (arith, lt)) s.0))
-    | inr le ↦ absurd (not_above h hs (g ∷ gs) (sym (same h.start b.0.0 b.0.1)) (omega (arith, le, ne), AreAbove-mono h.start g.start gs (omega (arith, le)) r.0))
+    | inl lt ↦ absurd (not_above g gs (h ∷ hs) (same g.start a.0.0 a.0.1) (lt, Above-mono (λ (x : Segment). x.start) g.start h.start hs (omega (arith, lt)) s.0))
+    | inr le ↦ absurd (not_above h hs (g ∷ gs) (sym (same h.start b.0.0 b.0.1)) (omega (arith, le, ne), Above-mono (λ (x : Segment). x.start) h.start g.start gs (omega (arith, le)) r.0))
   ]
 ]

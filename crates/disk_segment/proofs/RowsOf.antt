@@ -2,16 +2,17 @@
 use Rattle.std.proofs.Common.{inl, inr, ◌≡◌, ◌≢◌, ℕ, ◌+◌, ◌-◌, ◌<◌, ◌≤◌, List, [], ◌∷◌, length, Option, Some, None, Bool, true, false, cond, nat_lt, nat_le, ◌==◌, refl, sym, ◌∙◌, ap, subst, arith}
 use Rattle.std.proofs.lemmas.Bool.{cases_eq, cases_lt, cond_both, eqb-false}
 use Rattle.std.proofs.lemmas.Bool.Decides.{nat_tests}
+use Rattle.base_words.proofs.StartLaws.{put_here, put_before, put_on}
 use Rattle.base_disk.specs.Files.{Files}
 use Rattle.journal_core.specs.declared.segment.Segment.{Segment}
 use Rattle.journal_core.specs.declared.segment_info.SegmentInfo.{SegmentInfo}
 use Rattle.journal_core.specs.Segments.{find_segment, put_segment, remove_segment, newest, max_or, has_edit, any_body, end_of, AreAbove, AreRising}
-use Rattle.journal_core.proofs.PlaceLaws.{put_here, put_before, put_more}
+use Rattle.journal_core.proofs.PlaceLaws.{by_segments}
 use Rattle.disk_segment.specs.Names.{name_of, kind_of}
 use Rattle.disk_segment.specs.declared.segment_row.SegmentRow.{SegmentRow}
 use Rattle.disk_segment.specs.Rows.{find_row, put_row, remove_row, newest_row, row_has_edit}
 use Rattle.disk_segment.specs.RowsTell.{IsRowOf, AreRowsOf, AreStarts}
-use Rattle.disk_segment.proofs.RowLaws.{put_here as row_here, put_before as row_before, put_more as row_behind}
+use Rattle.disk_segment.proofs.RowLaws.{by_rows}
 
 module _ (seen : Files) where
   pub row_start : (g : Segment) (row : SegmentRow) → IsRowOf seen g row → row.info.start ≡ g.start
@@ -135,14 +136,14 @@ module _ (old new : Files) (start : ℕ) (same : (other end : ℕ) (is_final : B
       let row_at : row.info.start ≡ g.start = row_start new g row is in
       let r_at : r.info.start ≡ h.start = row_start old h r are.0 in
       elim (cases_lt h.start g.start) [
-        | inl less ↦ joined _ _ _ _ (put_more g h gs less) (row_behind row r rows (omega (arith, less, row_at, r_at)))
+        | inl less ↦ joined _ _ _ _ (put_on by_segments g h gs less) (put_on by_rows row r rows (omega (arith, less, row_at, r_at)))
             (row_beside h r (λ e. omega (arith, less, at, e)) are.0, put_rows_after g row at is gs rows rising.1 are.1)
         | inr le ↦ elim (cases_eq h.start g.start) [
-          | inl e ↦ joined _ _ _ _ (put_here g h gs e) (row_here row r rows (omega (arith, e, row_at, r_at)))
+          | inl e ↦ joined _ _ _ _ (put_here by_segments g h gs e) (put_here by_rows row r rows (omega (arith, e, row_at, r_at)))
               (is, rows_beside gs rows (others_above start h.start gs (omega (arith, e, at)) rising.0) are.1)
           | inr ne ↦
               let more : g.start < h.start = omega (arith, le, ne) in
-              joined _ _ _ _ (put_before g h gs more) (row_before row r rows (omega (arith, more, row_at, r_at)))
+              joined _ _ _ _ (put_before by_segments g h gs more) (put_before by_rows row r rows (omega (arith, more, row_at, r_at)))
               (is, (row_beside h r (λ e. omega (arith, more, at, e)) are.0, rows_beside gs rows (others_above start h.start gs (omega (arith, more, at)) rising.0) are.1))
         ]
       ]

@@ -2,30 +2,28 @@
 use Rattle.std.proofs.Common.{◌≡◌, ◌≢◌, ◌↔◌, ℕ, ◌+◌, ◌-◌, ◌*◌, ◌<◌, ◌≤◌, ◌==◌, Bool, true, false, List, [], length, drop, refl, ap, ◌∙◌, arith}
 use Rattle.std.proofs.lemmas.Bool.Decides.{nat_tests}
 use Rattle.base_disk.specs.Files.{Files}
-use Rattle.std.specs.Prelude.{Some, Result, IsErrOf}
+use Rattle.std.specs.Prelude.{Some, Result, IsOk}
 use Rattle.base_disk.specs.View.{View, IsSound}
 use Rattle.base_disk.specs.Calls.{Rests, HasCause}
 use Rattle.base_disk.specs.declared.disk.DiskFail.{DiskFail}
-use Rattle.base_disk.specs.declared.disk.DiskFail.TheVariants.{Failed}
 use Rattle.disk_frame.specs.declared.scanned.Scan.{Scan}
 use Rattle.disk_frame.specs.Answers.{IsScan}
 use Rattle.disk_frame.proofs.PieceLaws.{scan_from}
 use Rattle.base_disk.proofs.Keeping.{rests_same, rests_then}
-use Rattle.base_disk.proofs.Rises.{rose_since}
+use Rattle.base_disk.proofs.Causes.{none_at_ok}
 
 -- how many windows may come, where so many bytes are left
 abbrev pub windows_left : ℕ → Bool → ℕ
 windows_left rest true = 2 * rest
 windows_left rest false = 2 * rest + 1
 
--- a scan so far, over a disk on which nothing changed
+-- a scan so far, over a disk on which nothing changed and of which no fault came
 pub record IsScanning (told tells : Type 0) (v0 v : View) (f0 f n0 n : ℕ) (was_steady is_steady : Type 0) (name : List ℕ) (first skip most size : ℕ) (s : Scan) : Type 0 where
   pub tells_on : told ↔ tells
   pub rests : told → Rests v0 v
-  pub later : f0 ≤ f
+  pub same : f ≡ f0
   pub shortages : n0 ≤ n
   pub steady : was_steady → is_steady
-  pub same : was_steady → f ≡ f0
   pub limit : first + s.count ≤ 4611686018427387905
   pub places : 24 + s.whole_length ≤ size
   pub scans : told → (bytes : List ℕ) → v0.seen name ≡ Some bytes → length bytes ≡ size → IsScan first (drop 24 bytes) skip most s
@@ -36,10 +34,9 @@ pub begun : (told : Type 0) (v0 : View) (f0 n0 : ℕ) (was_steady : Type 0) (nam
 begun told v0 f0 n0 was_steady name first skip most size s is small header = record {
   tells_on = (λ t. t, λ t. t);
   rests = λ t. rests_same v0;
-  later = omega arith;
+  same = refl;
   shortages = omega arith;
   steady = λ s. s;
-  same = λ s. refl;
   limit = omega (arith, small, ap (λ (x : Scan). x.count) is);
   places = omega (arith, header, ap (λ (x : Scan). x.whole_length) is);
   scans = λ t bytes there long. scan_from first (drop 24 bytes) skip most s is;
@@ -62,27 +59,17 @@ module _ (told : Type 0) (v0 : View) (sound : told → IsSound v0) (f0 n0 : ℕ)
     pub still_rests : told → Rests v0 v1
     still_rests t = rests_then v0 v v1 (sound t) (so_far.rests t) (rests (so_far.tells_on.0 t))
 
-    pub cause_since : {S : Type 0} (outer : Result S DiskFail) → (IsErrOf outer Failed → IsErrOf r Failed) → HasCause f0 f1 was_steady steady1 outer
-    cause_since outer carry = record {
-      later = omega (arith, so_far.later, cause.later);
-      failed = λ failed. rose_since f0 f f1 so_far.later (cause.failed (carry failed));
-      steady = λ s. cause.steady (so_far.steady s);
-      no_fault = λ s failed. cause.no_fault (so_far.steady s) (carry failed);
-      same = λ s. cause.same (so_far.steady s) ∙ so_far.same s;
-    }
-
-    pub goes_on : (new : Scan) → (tells → (bytes : List ℕ) → v.seen name ≡ Some bytes
+    pub goes_on : IsOk r → (new : Scan) → (tells → (bytes : List ℕ) → v.seen name ≡ Some bytes
         → length bytes ≡ 24 + s.whole_length + (size - 24 - s.whole_length) → IsScan first (drop 24 bytes) skip most s
         → IsScan first (drop 24 bytes) skip most new)
         → first + new.count ≤ 4611686018427387905 → new.whole_length ≤ s.whole_length + (size - 24 - s.whole_length)
         → IsScanning told tells1 v0 v1 f0 f1 n0 n1 was_steady steady1 name first skip most size new
-    goes_on new window limit places = record {
+    goes_on ok new window limit places = record {
       tells_on = still_tells;
       rests = still_rests;
-      later = omega (arith, so_far.later, cause.later);
+      same = none_at_ok f f1 is_steady steady1 r cause ok ∙ so_far.same;
       shortages = omega (arith, so_far.shortages, more);
       steady = λ s. cause.steady (so_far.steady s);
-      same = λ s. cause.same (so_far.steady s) ∙ so_far.same s;
       limit = limit;
       places = omega (arith, places, so_far.places);
       scans = told_at_first (λ bytes. IsScan first (drop 24 bytes) skip most new) window;

@@ -145,6 +145,11 @@ pub carried : {S T : Type 0} {x : DiskFail} (inner : Result S DiskFail) (outer :
 carried inner (Ok y) e is and failed = absurd and
 carried {x = x} inner (Err d) e is and failed = is ∙ (let p : e ≡ x = cc in ap (λ (f : DiskFail). Err f) p)
 
+-- and the other way
+pub handed_on : {S T : Type 0} {x : DiskFail} (inner : Result S DiskFail) (outer : Result T DiskFail) (e : DiskFail) → inner ≡ Err e → IsErrAnd outer (λ d. d ≡ e) → IsErrOf inner x → IsErrOf outer x
+handed_on inner (Ok y) e is and failed = absurd and
+handed_on {x = x} inner (Err d) e is and failed = let p : d ≡ x = cc in ap (λ (f : DiskFail). Err f) p
+
 -- after the last call that is left
 pub stopped_at : {T : Type 0} (before now : Option ℕ) (tells : Type 0) (r : Result T DiskFail) (old new : View) (k : ℕ)
     → Budget before now tells r old new → before ≡ Some k → IsErrOf r Failed → (k ≡ 0) × (tells → Rests old new)

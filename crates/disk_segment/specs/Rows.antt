@@ -1,5 +1,7 @@
 -- Rows: what a node keeps of each segment without its edits, and lists of them by rising start.
-use Rattle.std.specs.Prelude.{ℕ, ◌+◌, ◌==◌, ◌≡◌, ◌≤◌, ◌<◌, Bool, nat_lt, nat_le, List, [], ◌∷◌, length, take, drop, slice_index_or, Option, Some, None, if◌then◌else◌}
+use Rattle.std.specs.Prelude.{ℕ, ◌+◌, ◌==◌, ◌≤◌, Bool, nat_lt, nat_le, List, [], ◌∷◌, Option, Some, None, if◌then◌else◌}
+use Rattle.std.specs.List.{AllByRecursion}
+use Rattle.base_words.specs.Starts.{Above, Rises}
 use Rattle.journal_core.specs.Segments.{max_or}
 use Rattle.disk_segment.specs.declared.segment_row.SegmentRow.{SegmentRow}
 
@@ -32,38 +34,19 @@ newest_row (row ∷ rows) = if row_has_edit row then Some (max_or row.info.start
 
 -- all starts are above that
 abbrev pub RowsAbove : ℕ → List SegmentRow → Type 0
-RowsAbove start [] = Unit {0}
-RowsAbove start (row ∷ rows) = (start < row.info.start) × RowsAbove start rows
-
--- all starts are below that
-abbrev pub RowsBelow : ℕ → List SegmentRow → Type 0
-RowsBelow start [] = Unit {0}
-RowsBelow start (row ∷ rows) = (row.info.start < start) × RowsBelow start rows
+RowsAbove = Above (λ (row : SegmentRow). row.info.start)
 
 abbrev pub RowsRise : List SegmentRow → Type 0
-RowsRise [] = Unit {0}
-RowsRise (row ∷ rows) = RowsAbove row.info.start rows × RowsRise rows
+RowsRise = Rises (λ (row : SegmentRow). row.info.start)
 
 -- its start is from 1 on, its end at least the start less one, and its txids are at most 2 ^ 62
 abbrev pub IsRowWithin : SegmentRow → Type 0
 IsRowWithin row = (1 ≤ row.info.start) × (row.info.start ≤ 4611686018427387904) × (row.info.start ≤ row.info.end + 1) × (row.info.end ≤ 4611686018427387904)
 
 abbrev pub RowsWithin : List SegmentRow → Type 0
-RowsWithin [] = Unit {0}
-RowsWithin (row ∷ rows) = IsRowWithin row × RowsWithin rows
+RowsWithin = AllByRecursion IsRowWithin
 
 -- what holds of every table
 pub record AreSoundRows (rows : List SegmentRow) : Type 0 where
   pub rising : RowsRise rows
   pub within : RowsWithin rows
-
--- the row at that place has that start
-pub record IsRowAt (start place : ℕ) (rows : List SegmentRow) : Type 0 where
-  pub within : place < length rows
-  pub there : (d : SegmentRow) → (slice_index_or rows place d).info.start ≡ start
-
--- no row has that start, and one with it would stand at that place
-pub record IsRowGap (start place : ℕ) (rows : List SegmentRow) : Type 0 where
-  pub within : place ≤ length rows
-  pub below : RowsBelow start (take place rows)
-  pub above : RowsAbove start (drop place rows)

@@ -1,6 +1,7 @@
 -- Rows of the table that tell segments: their states, and where the whole frames of their files
 -- end.
 use Rattle.std.specs.Prelude.{◌≡◌, ℕ, ◌≤◌, ◌^◌, true, List, [], ◌∷◌, Some, IsSome}
+use Rattle.std.specs.List.{AllByRecursion}
 use Rattle.base_disk.specs.Files.{Files}
 use Rattle.journal_core.specs.declared.segment.Segment.{Segment}
 use Rattle.journal_core.specs.Segments.{find_segment, info_of, end_of, AreSound}
@@ -26,10 +27,12 @@ AreRowsOf seen (g ∷ gs) [] = ⊥
 pub record OnlyAccepted (seen : Files) (gs : List Segment) : Type 0 where
   pub accepted : (start : ℕ) → 1 ≤ start → start ≤ 2 ^ 62 → IsSome (seen (name_of start Record)) → (g : Segment) × (find_segment start gs ≡ Some g) × (g.accepted ≡ true)
 
--- each start is from 1 to 2^62
+-- its start is from 1 to 2^62
+abbrev pub IsStart : Segment → Type 0
+IsStart g = (1 ≤ g.start) × (g.start ≤ 2 ^ 62)
+
 abbrev pub AreStarts : List Segment → Type 0
-AreStarts [] = Unit {0}
-AreStarts (g ∷ gs) = ((1 ≤ g.start) × (g.start ≤ 2 ^ 62)) × AreStarts gs
+AreStarts = AllByRecursion IsStart
 
 -- row by row, the states of these segments
 abbrev pub AreInfos : List Segment → List SegmentRow → Type 0

@@ -1,11 +1,11 @@
 //! The rows of a node's segments.
-ghost use Rattle.std.specs.Prelude.{◌≡◌, ◌≤◌, ◌<◌, [], length, IfOk, IfErr, IsOk, OnOk, OnErr, IfSome, IsSome};
+ghost use Rattle.std.specs.Prelude.{◌≡◌, ◌≤◌, ◌<◌, [], length, IfOk, IsOk, OnOk, OnErr, IfSome, IsSome};
 ghost use Rattle.std.specs.List.{insert};
 ghost use Rattle.std.specs.Option.{option_copied};
-ghost use Rattle.disk_segment.specs.Rows.{find_row, put_row, remove_row, newest_row, AreSoundRows, RowsRise, IsRowWithin, IsRowAt, IsRowGap, row_has_edit};
+ghost use Rattle.disk_segment.specs.Rows.{find_row, put_row, remove_row, newest_row, AreSoundRows, IsRowWithin, row_has_edit};
 
 use crate::segment_row::SegmentRow;
-use base_words::OutOfMemory;
+use base_words::{OutOfMemory, place_in};
 use std::alloc::Global;
 use std::marker::Model;
 use std::mem;
@@ -73,52 +73,6 @@ fn insert_in(
     room.rows.insert(place, row)?;
     mem::swap(rows, &mut room.rows);
     Ok(())
-}
-
-// The place of the row with that start, or where it would stand.
-#[tactic(auto, using(crate::proofs::RowLaws::sides))]
-fn search(rows: &[SegmentRow], start: u64) -> Result<usize, usize>
-    requires { RowsRise rows.now }
-    ensures found { IfOk result (λ place. IsRowAt start place rows.now) }
-    ensures gap { IfErr result (λ place. IsRowGap start place rows.now) }
-{
-    let mut low = 0;
-    let mut high = rows.len();
-    while low < high {
-        let middle = low + (high - low) / 2;
-        let here = rows[middle].info.start;
-        if here == start {
-            return Ok(middle);
-        }
-        if here < start {
-            low = middle + 1;
-        } else {
-            high = middle;
-        }
-    }
-    Err(low)
-}
-
-// The place of the row with that start, or where it would stand. The last row is tried first:
-// requests mostly speak of it.
-#[tactic(auto, using(crate::proofs::RowLaws::sides))]
-fn place_in(rows: &[SegmentRow], start: u64) -> Result<usize, usize>
-    requires { RowsRise rows.now }
-    ensures found { IfOk result (λ place. IsRowAt start place rows.now) }
-    ensures gap { IfErr result (λ place. IsRowGap start place rows.now) }
-{
-    let count = rows.len();
-    if count == 0 {
-        return Err(0);
-    }
-    let last = rows[count - 1].info.start;
-    if last == start {
-        return Ok(count - 1);
-    }
-    if last < start {
-        return Err(count);
-    }
-    search(rows, start)
 }
 
 // The segment of the row holds an edit.

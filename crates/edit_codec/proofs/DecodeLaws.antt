@@ -2,6 +2,7 @@
 use Rattle.std.proofs.Common.{◌≡◌, ◌≢◌, ◌⊎◌, ℕ, suc, ◌+◌, ◌-◌, ◌<◌, ◌≤◌, List, [], ◌∷◌, ◌++◌, length, length-append, Bool, true, Result, Ok, Err, refl, sym, ap, ◌∙◌, arith, inl, inr}
 use Rattle.std.specs.List.{flat_map}
 use Rattle.std.proofs.lemmas.List.{append-nil, nil_from_length}
+use Rattle.base_words.specs.Fields.{IsBytes}
 use Rattle.edit_ops.specs.declared.field_fault.FieldFault.{FieldFault}
 use Rattle.edit_ops.specs.declared.field_fault.FieldFault.TheVariants as faults
 use Rattle.edit_ops.specs.declared.field_fault.ReadError.{ReadError}
@@ -18,7 +19,7 @@ use Rattle.edit_ops.specs.Sources.{Fails}
 use Rattle.edit_ops.specs.Reading.{field_at, group_at, fields_at}
 use Rattle.edit_ops.proofs.SourceLaws.{with_front, ok_is, fields-append}
 use Rattle.edit_ops.proofs.ReadFields.{broken_field, short_field}
-use Rattle.edit_ops.proofs.FieldLaws.{IsBytes, is_wrong, least_bound}
+use Rattle.edit_ops.proofs.FieldLaws.{is_wrong, least_bound}
 use Rattle.edit_ops.proofs.WalkLaws.{runs, fields_good, fields_wrong}
 use Rattle.edit_ops.proofs.EditLaws.{edit_matches, same_edit, same_opcode}
 

@@ -2,6 +2,7 @@
 use Rattle.std.proofs.Common.{◌≡◌, ℕ, zero, suc, ◌-◌, ◌+◌, ◌≤◌, ◌<◌, List, [], ◌∷◌, ◌++◌, length, Option, Some, None, refl, sym, ap, ◌∙◌, append_assoc, arith}
 use Rattle.std.proofs.lemmas.List.{append-nil}
 use Rattle.edit_codec.specs.declared.bad_text.BadText.{BadText}
+use Rattle.base_words.proofs.Lists.{one_left, none_left}
 use Rattle.edit_ops.specs.declared.field_fault.ReadError.{ReadError}
 use Rattle.edit_ops.specs.declared.field_fault.ReadError.TheVariants as errors
 use Rattle.edit_ops.specs.Fields.{Kind, Field}
@@ -30,9 +31,8 @@ module _ (kind : Kind) where
   pub goes_on : (front : List Field) (count i : ℕ) (words : List ℕ) (f : Field) (after : List ℕ) (total : Option (List Field)) → i < count → 0 < length words → field_said kind words ≡ Some (f, after)
       → with_items front (items_said (count - i) kind words) ≡ total → with_items (front ++ f ∷ []) (items_said (count - (i + 1)) kind after) ≡ total
   goes_on front count i words f after total lt some h so_far =
-      let k : count - i ≡ suc (count - (i + 1)) = omega arith in
       let one : with_items front (items_said (count - i) kind words) ≡ with_items (front ++ f ∷ []) (items_said (count - (i + 1)) kind after) =
-      rw k (ap (with_items front) (one_item kind (count - (i + 1)) words f after some h)
+      rw (one_left lt) (ap (with_items front) (one_item kind (count - (i + 1)) words f after some h)
       ∙ regroup front f (items_said (count - (i + 1)) kind after)) in
       sym one ∙ so_far
 
@@ -40,8 +40,7 @@ module _ (kind : Kind) where
       → with_items front (items_said (count - i) kind words) ≡ total → Misses e total
   ends errors.Memory front count i words total lt some h so_far = tt
   ends (errors.Fault f) front count i words total lt some h so_far =
-      let k : count - i ≡ suc (count - (i + 1)) = omega arith in
-      let one : with_items front (items_said (count - i) kind words) ≡ None = rw k (ap (with_items front) (no_item kind (count - (i + 1)) words some h)) in
+      let one : with_items front (items_said (count - i) kind words) ≡ None = rw (one_left lt) (ap (with_items front) (no_item kind (count - (i + 1)) words some h)) in
       sym so_far ∙ one
 
   at_end : (most : ℕ) (words : List ℕ) → length words ≡ 0 → items_said most kind words ≡ Some []
@@ -61,6 +60,5 @@ module _ (kind : Kind) where
   pub is_too_long : (front : List Field) (count i : ℕ) (words : List ℕ) (total : Option (List Field)) → count ≤ i → 0 < length words
       → with_items front (items_said (count - i) kind words) ≡ total → total ≡ None
   is_too_long front count i words total le some so_far =
-      let k : count - i ≡ 0 = omega arith in
-      let one : with_items front (items_said (count - i) kind words) ≡ None = rw k (ap (with_items front) (too_many words some)) in
+      let one : with_items front (items_said (count - i) kind words) ≡ None = rw (none_left le) (ap (with_items front) (too_many words some)) in
       sym so_far ∙ one

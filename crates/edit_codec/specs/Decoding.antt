@@ -48,7 +48,8 @@ pub record HasUnknownOpcode (body : List ℕ) (byte : ℕ) : Type 0 where
   pub whole : body ≡ byte ∷ bytes
   pub unknown : (kind : OpKind) (called : Bool) → MayCall kind called → opcode kind called ≢ byte
 
--- the body's first byte is an opcode of the table, so that fields are read, of which names take memory
+-- the body's first byte is an opcode of the table, so that fields are read, of which names take
+-- memory
 pub record HasOpcode (body : List ℕ) : Type 0 where
   pub kind : OpKind
   pub called : Bool

@@ -1,12 +1,13 @@
 -- A field that is read is the field that was written, and what was written is read again.
-use Rattle.std.proofs.Common.{◌≡◌, ℕ, zero, suc, ◌+◌, ◌-◌, ◌^◌, ◌<◌, ◌≤◌, Bool, true, false, cond, ltb, eqb, List, [], ◌∷◌, ◌++◌, length, get_or}
+use Rattle.std.proofs.Common.{◌≡◌, ℕ, zero, suc, ◌+◌, ◌-◌, ◌^◌, ◌<◌, ◌≤◌, Bool, true, false, cond, ltb, eqb, List, [], ◌∷◌, ◌++◌, length}
 use Rattle.std.proofs.Common.{take, drop, Option, Some, None, Result, Ok, Err, refl, sym, ap, subst, ◌∙◌, append_assoc, arith, inl, inr, ◌⊎◌}
 use Rattle.std.specs.List.{list_all, AllByRecursion}
 use Rattle.std.specs.Char.{is_ascii_graphic}
 use Rattle.std.specs.Int.{Width, w16, w32, w64, from_be_bytes, to_be_bytes}
 use Rattle.std.proofs.lemmas.Bool.{cases_lt, ltb-false, ltb-true, lt-ltb, le-ltb}
-use Rattle.std.proofs.lemmas.List.{take_at, drop_at, take-append-drop, drop-drop, length-append, length-take, length-drop, get_or-drop, get_or-take, get_or_past}
-use Rattle.std.proofs.lemmas.Nat.{be_bytes_2, be_bytes_4, be_bytes_8, from_be_bytes-to_be_bytes_2, from_be_bytes-to_be_bytes_4, from_be_bytes-to_be_bytes_8}
+use Rattle.std.proofs.lemmas.List.{take_at, drop_at, take-append-drop, drop-drop, length-append, length-take, length-drop}
+use Rattle.base_words.specs.Fields.{IsBytes}
+use Rattle.base_words.proofs.FieldLaws.{bytes_before, bytes_after, Begins, begins_cut, Front, front_begins, field16, field32, field64}
 use Rattle.edit_ops.specs.declared.field_fault.FieldFault.{FieldFault}
 use Rattle.edit_ops.specs.declared.field_fault.FieldFault.TheVariants.{Short, Bad}
 use Rattle.edit_ops.specs.Fields.{Kind, Field, Text, path, owner, new_owner, text, small, number, flag, client, call_number, Text_, Small_, Number_}
@@ -15,19 +16,6 @@ use Rattle.edit_ops.specs.Rules.{told_length, least, broken_rule}
 use Rattle.edit_ops.specs.Reading.{field_at, judged, value_at}
 use Rattle.edit_ops.proofs.SourceLaws.{ok_is}
 use Rattle.edit_ops.proofs.ReadFields.{whole_field, least_text, good_text}
-
-abbrev pub IsBytes : List ℕ → Type 0
-IsBytes bytes = (i : ℕ) → get_or bytes i 0 < 256
-
-pub IsBytes-drop : (n : ℕ) (bytes : List ℕ) → IsBytes bytes → IsBytes (drop n bytes)
-IsBytes-drop n bytes h i = rw get_or-drop (h (n + i))
-
-pub IsBytes-take : (n : ℕ) (bytes : List ℕ) → IsBytes bytes → IsBytes (take n bytes)
-IsBytes-take n bytes h i =
-    elim (cases_lt i n) [
-      | inl lt ↦ rw (get_or-take n bytes i 0 lt) (h i)
-      | inr le ↦ rw (get_or_past (take n bytes) i 0 (omega (arith, length-take n bytes))) (omega arith)
-    ]
 
 -- ---- what a reading that went well says
 
@@ -86,65 +74,13 @@ pub is_wrong : (kind : Kind) (bytes : List ℕ) (fault : FieldFault) → field_a
 unfolding field_at
 is_wrong kind bytes fault e = wrong_by (ltb (length bytes) (least kind bytes)) (broken_rule kind bytes) kind bytes fault refl refl e
 
--- ---- numbers
-
-record IsWide (w : Width) (size bound : ℕ) : Type 0 where
-  len : (n : ℕ) → length (to_be_bytes w n) ≡ size
-  back : (bytes : List ℕ) → length bytes ≡ size → IsBytes bytes → to_be_bytes w (from_be_bytes w bytes) ≡ bytes
-  again : (n : ℕ) → n < bound → from_be_bytes w (to_be_bytes w n) ≡ n
-  below : (bytes : List ℕ) → IsBytes bytes → from_be_bytes w bytes < bound
-
-wide16 : IsWide w16 2 (2 ^ 16)
-wide16 = record {
-  len = λ n. refl;
-  back = λ bytes len fits. be_bytes_2 bytes _ len fits refl;
-  again = λ n lt. from_be_bytes-to_be_bytes_2 n lt;
-  below = λ bytes fits. omega (arith, fits 0, fits 1);
-}
-
-wide32 : IsWide w32 4 (2 ^ 32)
-wide32 = record {
-  len = λ n. refl;
-  back = λ bytes len fits. be_bytes_4 bytes _ len fits refl;
-  again = λ n lt. from_be_bytes-to_be_bytes_4 n lt;
-  below = λ bytes fits. omega (arith, fits 0, fits 1, fits 2, fits 3);
-}
-
-wide64 : IsWide w64 8 (2 ^ 64)
-wide64 = record {
-  len = λ n. refl;
-  back = λ bytes len fits. be_bytes_8 bytes _ len fits refl;
-  again = λ n lt. from_be_bytes-to_be_bytes_8 n lt;
-  below = λ bytes fits. omega (arith, fits 0, fits 1, fits 2, fits 3, fits 4, fits 5, fits 6, fits 7);
-}
-
-module _ (w : Width) (size bound : ℕ) (wide : IsWide w size bound) where
-  -- the number at the front of enough bytes is spelled by them
-  front_spelled : (bytes : List ℕ) → IsBytes bytes → size ≤ length bytes → bytes ≡ to_be_bytes w (from_be_bytes w (take size bytes)) ++ drop size bytes
-  front_spelled bytes fits there =
-      let back : to_be_bytes w (from_be_bytes w (take size bytes)) ≡ take size bytes = wide.back (take size bytes) (omega (arith, length-take size bytes)) (IsBytes-take size bytes fits) in
-      rw back (sym (take-append-drop size bytes))
-
-  front_below : (bytes : List ℕ) → IsBytes bytes → from_be_bytes w (take size bytes) < bound
-  front_below bytes fits = wide.below (take size bytes) (IsBytes-take size bytes fits)
-
-  front_again : (n : ℕ) (rest : List ℕ) → n < bound → from_be_bytes w (take size (to_be_bytes w n ++ rest)) ≡ n
-  front_again n rest lt = ap (from_be_bytes w) (take_at (to_be_bytes w n) rest size (wide.len n)) ∙ wide.again n lt
-
-  rest_again : (n : ℕ) (rest : List ℕ) → drop size (to_be_bytes w n ++ rest) ≡ rest
-  rest_again n rest = drop_at (to_be_bytes w n) rest size (wide.len n)
-
-  long_again : (n : ℕ) (rest : List ℕ) → size ≤ length (to_be_bytes w n ++ rest)
-  long_again n rest = omega (arith, length-append (to_be_bytes w n) rest, wide.len n)
-
 -- ---- what is read
 
--- what a reader took from the front
+-- bytes begin with a field of this kind
 pub record Takes (kind : Kind) (bytes : List ℕ) (field : Field) (rest : List ℕ) : Type 0 where
   pub kind_is : kind_of_field field ≡ kind
   pub good : IsGood field
-  pub parts : bytes ≡ field_bytes field ++ rest
-  pub rest_fits : IsBytes rest
+  pub begins : Begins bytes (field_bytes field) rest
 
 no_text_rule : (long printable : Bool) → cond {A = Option ℕ} long (Some 1) (cond {A = Option ℕ} printable None (Some 2)) ≡ None → (long ≡ false) × (printable ≡ true)
 no_text_rule true printable e = absurd cc
@@ -174,53 +110,38 @@ taken (text t) bytes fits there none =
     let two : 2 ≤ length bytes = two_there (cases_lt (length bytes) 2) in
     let least_is = least_text t bytes two in
     let len : length (take (told_length bytes) (drop 2 bytes)) ≡ told_length bytes = omega (arith, length-take (told_length bytes) (drop 2 bytes), length-drop 2 bytes, there, least_is) in
-    let spelled : bytes ≡ to_be_bytes w16 (told_length bytes) ++ drop 2 bytes = front_spelled w16 2 (2 ^ 16) wide16 bytes fits two in
+    let size : Front w16 2 (2 ^ 16) bytes (told_length bytes) (drop 2 bytes) = field16.found bytes fits two in
     let split : drop 2 bytes ≡ take (told_length bytes) (drop 2 bytes) ++ drop (least (text t) bytes) bytes =
     sym (take-append-drop (told_length bytes) (drop 2 bytes)) ∙ ap (λ (r : List ℕ). take (told_length bytes) (drop 2 bytes) ++ r)
     (drop-drop (told_length bytes) 2 bytes ∙ ap (λ (n : ℕ). drop n bytes) (sym least_is)) in
     record {
       kind_is = refl;
       good = (omega (arith, len, ltb-false _ _ rules.0), rules.1);
-      parts = spelled ∙ (λ i. to_be_bytes w16 (sym len i) ++ split i)
-          ∙ sym (append_assoc (to_be_bytes w16 (length (take (told_length bytes) (drop 2 bytes)))) (take (told_length bytes) (drop 2 bytes))
-          (drop (least (text t) bytes) bytes));
-      rest_fits = IsBytes-drop (least (text t) bytes) bytes fits;
+      begins = record {
+        spelled = size.spelled ∙ (λ i. to_be_bytes w16 (sym len i) ++ split i)
+            ∙ sym (append_assoc (to_be_bytes w16 (length (take (told_length bytes) (drop 2 bytes)))) (take (told_length bytes) (drop 2 bytes))
+            (drop (least (text t) bytes) bytes));
+        left = bytes_after (least (text t) bytes) bytes fits;
+      };
     }
   where
     two_there : (length bytes < 2) ⊎ (2 ≤ length bytes) → 2 ≤ length bytes
     two_there (inl short) = let cut : ltb (length bytes) 2 ≡ true = lt-ltb _ _ short in let told : least (text t) bytes ≡ 2 = rw cut refl in omega (arith, told, there)
     two_there (inr le) = le
-taken (small s) bytes fits there none = record {
-  kind_is = refl;
-  good = front_below w16 2 (2 ^ 16) wide16 bytes fits;
-  parts = front_spelled w16 2 (2 ^ 16) wide16 bytes fits there;
-  rest_fits = IsBytes-drop 2 bytes fits;
-}
-taken number bytes fits there none = record {
-  kind_is = refl;
-  good = ltb-false _ _ (no_rule_4 (ltb (2 ^ 62) (from_be_bytes w64 (take 8 bytes))) none);
-  parts = front_spelled w64 8 (2 ^ 64) wide64 bytes fits there;
-  rest_fits = IsBytes-drop 8 bytes fits;
-}
+taken (small s) bytes fits there none = let n = field16.found bytes fits there in record { kind_is = refl; good = n.small; begins = front_begins n fits }
+taken number bytes fits there none =
+    let n = field64.found bytes fits there in
+    record { kind_is = refl; good = ltb-false _ _ (no_rule_4 (ltb (2 ^ 62) (from_be_bytes w64 (take 8 bytes))) none); begins = front_begins n fits }
 taken flag [] fits there none = absurd (omega (arith, there))
-taken flag (b ∷ bytes) fits there none = record {
-  kind_is = refl;
-  good = tt;
-  parts = ap (λ (c : ℕ). c ∷ bytes) (sym (flag_spelled b (ltb-false _ _ (no_rule_3 (ltb 1 b) none))));
-  rest_fits = λ i. fits (suc i);
-}
+taken flag (b ∷ bytes) fits there none =
+    let spelled : b ∷ bytes ≡ cond (eqb b 1) 1 0 ∷ bytes = ap (λ (c : ℕ). c ∷ bytes) (sym (flag_spelled b (ltb-false _ _ (no_rule_3 (ltb 1 b) none)))) in
+    record { kind_is = refl; good = tt; begins = record { spelled = spelled; left = λ i. fits (suc i) } }
 taken client bytes fits there none = record {
   kind_is = refl;
-  good = (omega (arith, length-take 16 bytes, there), all_bytes (take 16 bytes) (IsBytes-take 16 bytes fits));
-  parts = sym (take-append-drop 16 bytes);
-  rest_fits = IsBytes-drop 16 bytes fits;
+  good = (omega (arith, length-take 16 bytes, there), all_bytes (take 16 bytes) (bytes_before 16 bytes fits));
+  begins = begins_cut 16 bytes fits;
 }
-taken call_number bytes fits there none = record {
-  kind_is = refl;
-  good = front_below w32 4 (2 ^ 32) wide32 bytes fits;
-  parts = front_spelled w32 4 (2 ^ 32) wide32 bytes fits there;
-  rest_fits = IsBytes-drop 4 bytes fits;
-}
+taken call_number bytes fits there none = let n = field32.found bytes fits there in record { kind_is = refl; good = n.small; begins = front_begins n fits }
 
 pub field_takes : (kind : Kind) (bytes : List ℕ) (field : Field) (rest : List ℕ) → IsBytes bytes → field_at kind bytes ≡ Ok (field, rest) → Takes kind bytes field rest
 field_takes kind bytes field rest fits e =
@@ -244,37 +165,36 @@ pub field_again : (field : Field) (rest : List ℕ) → IsGood field → field_a
 field_again (Text_ t said) rest good =
     let bytes : List ℕ = to_be_bytes w16 (length said) ++ (said ++ rest) in
     let small_enough : length said < 2 ^ 16 = omega (arith, good.0, short_limit t) in
-    let told : told_length (to_be_bytes w16 (length said) ++ (said ++ rest)) ≡ length said = front_again w16 2 (2 ^ 16) wide16 (length said) (said ++ rest) small_enough in
-    let after : drop 2 (to_be_bytes w16 (length said) ++ (said ++ rest)) ≡ said ++ rest = rest_again w16 2 (2 ^ 16) wide16 (length said) (said ++ rest) in
-    let long = long_again w16 2 (2 ^ 16) wide16 (length said) (said ++ rest) in
+    let size : Front w16 2 (2 ^ 16) (to_be_bytes w16 (length said) ++ (said ++ rest)) (length said) (said ++ rest) = field16.put (length said) (said ++ rest) small_enough in
+    let told : told_length (to_be_bytes w16 (length said) ++ (said ++ rest)) ≡ length said = size.number in
     let least_is : least (text t) (to_be_bytes w16 (length said) ++ (said ++ rest)) ≡ 2 + length said =
-    least_text t (to_be_bytes w16 (length said) ++ (said ++ rest)) long ∙ ap (λ (n : ℕ). 2 + n) told in
+    least_text t (to_be_bytes w16 (length said) ++ (said ++ rest)) size.enough ∙ ap (λ (n : ℕ). 2 + n) told in
     let text_is : take (told_length (to_be_bytes w16 (length said) ++ (said ++ rest))) (drop 2 (to_be_bytes w16 (length said) ++ (said ++ rest))) ≡
-    said = (λ i. take (told i) (after i)) ∙ take_at said rest (length said) refl in
+    said = (λ i. take (told i) (size.after i)) ∙ take_at said rest (length said) refl in
     let whole : 2 + length said ≤ length (to_be_bytes w16 (length said) ++ (said ++ rest)) =
-    omega (arith, length-append (to_be_bytes w16 (length said)) (said ++ rest), length-append said rest, wide16.len (length said)) in
+    omega (arith, length-append (to_be_bytes w16 (length said)) (said ++ rest), length-append said rest) in
     let rest_is : drop (2 + length said) (to_be_bytes w16 (length said) ++ (said ++ rest)) ≡ rest =
-    sym (drop-drop (length said) 2 (to_be_bytes w16 (length said) ++ (said ++ rest))) ∙ ap (drop (length said)) after
+    sym (drop-drop (length said) 2 (to_be_bytes w16 (length said) ++ (said ++ rest))) ∙ ap (drop (length said)) size.after
     ∙ drop_at said rest (length said) refl in
     ap (field_at (text t)) (append_assoc (to_be_bytes w16 (length said)) said rest)
     ∙ again_by (text t) (to_be_bytes w16 (length said) ++ (said ++ rest)) (Text_ t said) rest (2 + length said) least_is whole
     (good_text t (to_be_bytes w16 (length said) ++ (said ++ rest)) (omega (arith, told, good.0))
     (ap (list_all is_ascii_graphic) text_is ∙ good.1)) (ap (Text_ t) text_is) rest_is
 field_again (Small_ s n) rest good =
-    again_by (small s) (to_be_bytes w16 n ++ rest) (Small_ s n) rest 2 refl (long_again w16 2 (2 ^ 16) wide16 n rest) refl
-    (ap (Small_ s) (front_again w16 2 (2 ^ 16) wide16 n rest good)) (rest_again w16 2 (2 ^ 16) wide16 n rest)
+    let put : Front w16 2 (2 ^ 16) (to_be_bytes w16 n ++ rest) n rest = field16.put n rest good in
+    again_by (small s) (to_be_bytes w16 n ++ rest) (Small_ s n) rest 2 refl put.enough refl (ap (Small_ s) put.number) put.after
 field_again (Number_ n) rest good =
-    let is : from_be_bytes w64 (take 8 (to_be_bytes w64 n ++ rest)) ≡ n = front_again w64 8 (2 ^ 64) wide64 n rest (omega (arith, good)) in
+    let put : Front w64 8 (2 ^ 64) (to_be_bytes w64 n ++ rest) n rest = field64.put n rest (omega (arith, good)) in
+    let is : from_be_bytes w64 (take 8 (to_be_bytes w64 n ++ rest)) ≡ n = put.number in
     let within : ltb (2 ^ 62) (from_be_bytes w64 (take 8 (to_be_bytes w64 n ++ rest))) ≡ false = le-ltb _ _ (omega (arith, is, good)) in
-    again_by number (to_be_bytes w64 n ++ rest) (Number_ n) rest 8 refl (long_again w64 8 (2 ^ 64) wide64 n rest)
-    (ap (λ (b : Bool). cond {A = Option ℕ} b (Some 4) None) within) (ap Number_ is) (rest_again w64 8 (2 ^ 64) wide64 n rest)
+    again_by number (to_be_bytes w64 n ++ rest) (Number_ n) rest 8 refl put.enough (ap (λ (b : Bool). cond {A = Option ℕ} b (Some 4) None) within) (ap Number_ is) put.after
 field_again (Flag_ true) rest good = again_by flag (1 ∷ rest) (Flag_ true) rest 1 refl (omega arith) refl refl refl
 field_again (Flag_ false) rest good = again_by flag (0 ∷ rest) (Flag_ false) rest 1 refl (omega arith) refl refl refl
 field_again (Client_ bytes) rest good = again_by client (bytes ++ rest) (Client_ bytes) rest 16 refl (omega (arith, length-append bytes rest, good.0))
     refl (ap Client_ (take_at bytes rest 16 good.0)) (drop_at bytes rest 16 good.0)
 field_again (Call_ n) rest good =
-    again_by call_number (to_be_bytes w32 n ++ rest) (Call_ n) rest 4 refl (long_again w32 4 (2 ^ 32) wide32 n rest) refl
-    (ap Call_ (front_again w32 4 (2 ^ 32) wide32 n rest good)) (rest_again w32 4 (2 ^ 32) wide32 n rest)
+    let put : Front w32 4 (2 ^ 32) (to_be_bytes w32 n ++ rest) n rest = field32.put n rest good in
+    again_by call_number (to_be_bytes w32 n ++ rest) (Call_ n) rest 4 refl put.enough refl (ap Call_ put.number) put.after
 
 -- each field has a byte or more
 pub some_byte : (field : Field) → IsGood field → 0 < length (field_bytes field)
@@ -291,7 +211,7 @@ least_bound (text t) bytes fits = by (ltb (length bytes) 2)
   where
     by : (b : Bool) → cond b 2 (2 + told_length bytes) ≤ 65537
     by true = omega arith
-    by false = omega (arith, front_below w16 2 (2 ^ 16) wide16 bytes fits)
+    by false = omega (arith, field16.small (take 2 bytes) (bytes_before 2 bytes fits))
 least_bound (small s) bytes fits = omega arith
 least_bound number bytes fits = omega arith
 least_bound flag bytes fits = omega arith

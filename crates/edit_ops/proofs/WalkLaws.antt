@@ -2,6 +2,7 @@
 use Rattle.std.proofs.Common.{◌≡◌, ℕ, zero, suc, ◌<◌, List, [], ◌∷◌, ◌++◌, length, length-append, Result, Ok, Err, refl, sym, ap, subst, ◌∙◌, append_assoc, arith}
 use Rattle.std.specs.Prelude.{replicate}
 use Rattle.std.specs.List.{flat_map, AllByRecursion}
+use Rattle.base_words.specs.Fields.{IsBytes}
 use Rattle.edit_ops.specs.declared.field_fault.FieldFault.{FieldFault}
 use Rattle.edit_ops.specs.Fields.{Kind, Field, path, numbers, paths, replication, permission, text, small, number, flag, client, call_number, Text_}
 use Rattle.edit_ops.specs.Fields.{Small_, Number_, Flag_, Client_, Call_, kind_of_field, IsGood, field_bytes, follow}
@@ -9,7 +10,7 @@ use Rattle.edit_ops.specs.Rules.{Matches}
 use Rattle.edit_ops.specs.Sources.{◌>>=◌}
 use Rattle.edit_ops.specs.Reading.{value_at, field_at, items_at, group_at, fields_at}
 use Rattle.edit_ops.proofs.SourceLaws.{with_front, with_front-append, with_front-nil, and_then, and_then-front, fields-append}
-use Rattle.edit_ops.proofs.FieldLaws.{IsBytes, is_read, Takes, field_takes, field_again, some_byte}
+use Rattle.edit_ops.proofs.FieldLaws.{is_read, Takes, field_takes, field_again, some_byte}
 
 abbrev Read : Type 0
 Read = Result (List Field × List ℕ) FieldFault
@@ -141,7 +142,7 @@ Outcome kinds bytes (Err fault) = Stops kinds bytes fault
 joined : (k : Kind) (ks : List Kind) (bytes : List ℕ) (f : Field × List ℕ) → Takes k bytes f.0 f.1 → (r : Read) → Outcome (follow f.0 ++ ks) f.1 r → Outcome (k ∷ ks) bytes (with_front (f.0 ∷ []) r)
 joined k ks bytes f t (Ok x) o = record {
   matches = (t.kind_is, t.good, o.matches);
-  parts = t.parts ∙ ap (λ (r : List ℕ). field_bytes f.0 ++ r) o.parts ∙ sym (append_assoc (field_bytes f.0) (flat_map field_bytes x.0) x.1);
+  parts = t.begins.spelled ∙ ap (λ (r : List ℕ). field_bytes f.0 ++ r) o.parts ∙ sym (append_assoc (field_bytes f.0) (flat_map field_bytes x.0) x.1);
   rest_fits = o.rest_fits;
 }
 joined k ks bytes f t (Err e) o = record {
@@ -150,7 +151,7 @@ joined k ks bytes f t (Err e) o = record {
   left = o.left;
   rest = o.rest;
   matches = (t.kind_is, t.good, o.matches);
-  parts = t.parts ∙ ap (λ (r : List ℕ). field_bytes f.0 ++ r) o.parts ∙ sym (append_assoc (field_bytes f.0) (flat_map field_bytes o.fields) o.rest);
+  parts = t.begins.spelled ∙ ap (λ (r : List ℕ). field_bytes f.0 ++ r) o.parts ∙ sym (append_assoc (field_bytes f.0) (flat_map field_bytes o.fields) o.rest);
   wrong = o.wrong;
   rest_fits = o.rest_fits;
 }
@@ -166,8 +167,8 @@ outcome (suc turns) (k ∷ ks) bytes fits lt = subst (Outcome (k ∷ ks) bytes) 
     by rec (Err e) is = record { fields = []; next = k; left = ks; rest = bytes; matches = refl; parts = refl; wrong = is; rest_fits = fits }
     by rec (Ok f) is =
         let t = field_takes k bytes f.0 f.1 fits is in
-        let less : length f.1 < turns = omega (arith, lt, ap length t.parts, length-append (field_bytes f.0) f.1, some_byte f.0 t.good) in
-        joined k ks bytes f t (fields_at (follow f.0 ++ ks) f.1) (rec (follow f.0 ++ ks) f.1 t.rest_fits less)
+        let less : length f.1 < turns = omega (arith, lt, ap length t.begins.spelled, length-append (field_bytes f.0) f.1, some_byte f.0 t.good) in
+        joined k ks bytes f t (fields_at (follow f.0 ++ ks) f.1) (rec (follow f.0 ++ ks) f.1 t.begins.left less)
 
 -- all the fields that match are good
 pub matches_good : (kinds : List Kind) (fields : List Field) (left : List Kind) → Matches kinds fields left → AllByRecursion IsGood fields

@@ -3,11 +3,13 @@ use Rattle.std.proofs.Common.{ℕ, ◌≡◌, ◌<◌, ◌≤◌, List, [], ◌�
 use Rattle.std.proofs.Common.{◌-◌, ◌&&◌, length, take, drop, get_or, min, nat_lt, zero, suc, Option, Some, None, subst}
 use Rattle.std.proofs.lemmas.Bool.Decides.{nat_tests}
 use Rattle.std.proofs.lemmas.List.{drop_more, drop_all}
+use Rattle.base_words.proofs.StartLaws.{without_here, without_on, without_above}
 use Rattle.journal_core.specs.declared.segment.Segment.{Segment}
 use Rattle.journal_core.specs.declared.node_state.NodeState.{NodeState}
 use Rattle.journal_core.specs.Effects.{Remove, after_effects}
 use Rattle.journal_core.specs.Segments.{remove_segment, AreAbove, AreRising, AreWithin, AreSound}
 use Rattle.journal_core.specs.Places.{without, start_of_place, lies_before}
+use Rattle.journal_core.proofs.PlaceLaws.{by_segments}
 
 -- the effects of a purge, one by one
 pub removed_each : (olds : List Segment) (s : NodeState) → after_effects s (map (λ (g : Segment). Remove g.start) olds) ≡ record s { segments = without olds s.segments }
@@ -17,24 +19,9 @@ removed_each (old ∷ olds) s = removed_each olds (record s { segments = remove_
 
 -- the starts of these segments are above
 without_head : (olds : List Segment) (g : Segment) (gs : List Segment) → AreAbove g.start olds → without olds (g ∷ gs) ≡ g ∷ without olds gs
-unfolding remove_segment
 without_head [] g gs p = refl
 without_head (old ∷ olds) g gs p =
-    let e : (g.start == old.start) ≡ false = grind (arith, nat_tests, p.0) in
-    rw e (without_head olds g (remove_segment old.start gs) p.1)
-
-remove_above : (start : ℕ) (gs : List Segment) → AreAbove start gs → remove_segment start gs ≡ gs
-unfolding remove_segment
-remove_above start [] p = refl
-remove_above start (g ∷ gs) p =
-    let e : (g.start == start) ≡ false = grind (arith, nat_tests, p.0) in
-    rw e (ap (λ xs. g ∷ xs) (remove_above start gs p.1))
-
-remove_here : (g : Segment) (gs : List Segment) → AreAbove g.start gs → remove_segment g.start (g ∷ gs) ≡ gs
-unfolding remove_segment
-remove_here g gs p =
-    let e : (g.start == g.start) ≡ true = grind (arith, nat_tests) in
-    rw e (remove_above g.start gs p)
+    ap (without olds) (without_on by_segments old.start g gs (λ same. omega (arith, p.0, same))) ∙ without_head olds g (remove_segment old.start gs) p.1
 
 pub filter_above : (p : Segment → Bool) (start : ℕ) (gs : List Segment) → AreAbove start gs → AreAbove start (filter p gs)
 filter_above p start [] a = tt
@@ -59,7 +46,7 @@ without_is : (p : Segment → Bool) (gs : List Segment) → AreRising gs → wit
 without_is p [] r = refl
 without_is p (g ∷ gs) r =
     elim (p g) as (λ b. without (cond b (g ∷ filter p gs) (filter p gs)) (g ∷ gs) ≡ cond (not b) (g ∷ filter (λ x. not (p x)) gs) (filter (λ x. not (p x)) gs)) [
-      | true ↦ ap (without (filter p gs)) (remove_here g gs r.0) ∙ without_is p gs r.1
+      | true ↦ ap (without (filter p gs)) (without_here by_segments g.start g gs refl ∙ without_above by_segments g.start gs r.0) ∙ without_is p gs r.1
       | false ↦ without_head (filter p gs) g gs (filter_above p g.start gs r.0) ∙ ap (λ xs. g ∷ xs) (without_is p gs r.1)
     ]
 

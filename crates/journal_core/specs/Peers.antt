@@ -1,5 +1,5 @@
 -- The calls that a caller makes at the nodes of a journal.
-use Rattle.std.specs.Prelude.{ℕ, ◌≡◌, ◌≢◌, ◌≤◌, List, [], ◌∷◌, ◌++◌, Result, Ok, Err}
+use Rattle.std.specs.Prelude.{ℕ, ◌≡◌, ◌≢◌, List, [], ◌∷◌, ◌++◌, Result, Ok, Err}
 use Rattle.std.specs.declared.alloc.AllocError.{AllocError}
 use Rattle.journal_core.specs.declared.request.Request.{Request}
 use Rattle.journal_core.specs.declared.refusal.Refusal.TheVariants.{OutOfMemory}
@@ -8,11 +8,6 @@ use Rattle.journal_core.specs.declared.heard.Heard.{Heard}
 use Rattle.journal_core.specs.declared.heard.Heard.TheVariants.{Answer, Silent}
 use Rattle.journal_core.specs.declared.peer_call.PeerCall.{PeerCall}
 use Rattle.journal_core.specs.Answers.{FitsRequest}
-
--- a journal has from 1 to 15 nodes
-pub record IsPermitted (nodes : ℕ) : Type 0 where
-  pub some : 1 ≤ nodes
-  pub few : nodes ≤ 15
 
 -- what may be heard of a request: nothing, or an answer that fits it and isn't lack of memory
 abbrev pub FitsHeard : Request → Heard → Type 0

@@ -1,24 +1,8 @@
--- The place of a segment in a list by rising start.
-use Rattle.std.specs.Prelude.{ℕ, ◌≡◌, ◌≤◌, ◌<◌, ◌&&◌, Bool, true, not, nat_lt, nat_le, List, [], ◌∷◌, length, take, drop, slice_index_or, zero, suc, Option, Some, None}
+-- Which segments a purge may remove, and what it leaves.
+use Rattle.std.specs.Prelude.{ℕ, ◌&&◌, Bool, true, not, nat_lt, nat_le, List, [], ◌∷◌, zero, suc, Option, Some, None}
 use Rattle.journal_core.specs.declared.segment.Segment.{Segment}
-use Rattle.journal_core.specs.Segments.{AreAbove, remove_segment, has_edit}
+use Rattle.journal_core.specs.Segments.{remove_segment, has_edit}
 use Rattle.journal_core.specs.Step.{is_one, last_or_start}
-
--- all starts are below that
-abbrev pub AreBelow : ℕ → List Segment → Type 0
-AreBelow start [] = Unit {0}
-AreBelow start (g ∷ gs) = (g.start < start) × AreBelow start gs
-
--- the segment at that place has that start
-pub record IsAt (start place : ℕ) (gs : List Segment) : Type 0 where
-  pub within : place < length gs
-  pub there : (d : Segment) → (slice_index_or gs place d).start ≡ start
-
--- no segment has that start, and one with it would stand at that place
-pub record IsGap (start place : ℕ) (gs : List Segment) : Type 0 where
-  pub within : place ≤ length gs
-  pub below : AreBelow start (take place gs)
-  pub above : AreAbove start (drop place gs)
 
 -- a purge may remove the segment, where these are the open one and the newest that holds an edit
 abbrev pub is_old : Option ℕ → Option ℕ → ℕ → ℕ → Segment → Bool

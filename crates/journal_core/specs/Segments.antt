@@ -1,5 +1,7 @@
 -- Segments and lists of them by rising start.
-use Rattle.std.specs.Prelude.{ℕ, ◌+◌, ◌-◌, ◌==◌, ◌≡◌, ◌≤◌, ◌<◌, Bool, true, false, max, nat_lt, List, [], ◌∷◌, length, Option, Some, None, slice_get, if◌then◌else◌}
+use Rattle.std.specs.Prelude.{ℕ, ◌+◌, ◌-◌, ◌==◌, ◌≡◌, ◌≤◌, Bool, true, false, max, nat_lt, List, [], ◌∷◌, length, Option, Some, None, slice_get, if◌then◌else◌}
+use Rattle.std.specs.List.{AllByRecursion}
+use Rattle.base_words.specs.Starts.{Above, Rises}
 use Rattle.journal_core.specs.declared.segment.Segment.{Segment}
 use Rattle.journal_core.specs.declared.segment_info.SegmentInfo.{SegmentInfo}
 
@@ -58,20 +60,17 @@ newest (g ∷ gs) = if has_edit g then Some (max_or g.start (newest gs)) else ne
 
 -- all starts are above that
 abbrev pub AreAbove : ℕ → List Segment → Type 0
-AreAbove start [] = Unit {0}
-AreAbove start (g ∷ gs) = (start < g.start) × AreAbove start gs
+AreAbove = Above (λ (g : Segment). g.start)
 
 abbrev pub AreRising : List Segment → Type 0
-AreRising [] = Unit {0}
-AreRising (g ∷ gs) = AreAbove g.start gs × AreRising gs
+AreRising = Rises (λ (g : Segment). g.start)
 
 -- its txids are at most 2 ^ 62
 abbrev pub IsWithin : Segment → Type 0
 IsWithin g = g.start + length g.bodies ≤ 4611686018427387905
 
 abbrev pub AreWithin : List Segment → Type 0
-AreWithin [] = Unit {0}
-AreWithin (g ∷ gs) = IsWithin g × AreWithin gs
+AreWithin = AllByRecursion IsWithin
 
 -- what holds of every node's list
 pub record AreSound (gs : List Segment) : Type 0 where

@@ -47,7 +47,7 @@ pub use node::{CutNode, Node};
 pub use node_fail::NodeFail;
 pub use node_state::NodeState;
 pub use peer_call::PeerCall;
-pub use peers::{MAX_NODES, Peers, permitted_nodes};
+pub use peers::Peers;
 pub use refusal::Refusal;
 pub use reply::Reply;
 pub use request::Request;

@@ -1,22 +1,12 @@
 //! The nodes that a caller can call.
-ghost use Rattle.std.specs.Prelude.{◌≡◌, ◌≤◌, ℕ, List, IfOk, IsTrue, ◌↔◌};
+ghost use Rattle.std.specs.Prelude.{◌≡◌, ◌≤◌, ℕ, List, IfOk, OnOk};
 ghost use Rattle.journal_core.specs.declared.peer_call.PeerCall.{PeerCall};
-ghost use Rattle.journal_core.specs.Peers.{Lists, FitsHeard, IsPermitted};
+ghost use Rattle.journal_core.specs.Peers.{Lists, FitsHeard};
 
 use crate::OutOfMemory;
 use crate::heard::Heard;
 use crate::shared_request::SharedRequest;
 use std::alloc::Global;
-
-/// The most nodes of one journal.
-pub const MAX_NODES: usize = 15;
-
-/// Whether a journal may have that many nodes: from 1 to 15.
-pub fn permitted_nodes(nodes: usize) -> bool
-    ensures { IsTrue result ↔ IsPermitted nodes }
-{
-    1 <= nodes && nodes <= MAX_NODES
-}
 
 /// The nodes of a journal as one caller has them: in memory, after locks, or in a world that lists
 /// its events. They are numbered from 1.
@@ -26,6 +16,9 @@ pub trait Peers {
 
     /// How many nodes there are. No call changes it.
     ghost nodes: { Self → ℕ };
+
+    /// The second are the first ones some calls later, for none of which memory was wanting.
+    ghost called: { Self → Self → Type 0 };
 
     /// How many nodes there are.
     fn nodes(&self) -> usize
@@ -38,11 +31,16 @@ pub trait Peers {
         &mut self,
         alloc: Global,
         node: usize,
-        request: &SharedRequest,
+        request: SharedRequest,
     ) -> Result<Heard, OutOfMemory>
         requires first { 1 ≤ node }
         requires last { node ≤ nodes self.old }
-        ensures listed { Lists (calls self.old) node request.now result (calls self.new) }
-        ensures fits { IfOk result (λ heard. FitsHeard request.now heard) }
-        ensures nodes { nodes self.new ≡ nodes self.old };
+        ensures listed { Lists (calls self.old) node request result (calls self.new) }
+        ensures fits { IfOk result (λ heard. FitsHeard request heard) }
+        ensures nodes { nodes self.new ≡ nodes self.old }
+        ensures called { OnOk result (called self.old self.new) };
+
+    ghost called_none: { (peers : Self) → called peers peers };
+
+    ghost called_on: { (p q r : Self) → called p q → called q r → called p r };
 }

@@ -5,6 +5,7 @@ ghost use Rattle.journal_core.specs.Step.{last_or_start};
 
 use crate::body_list::BodyList;
 use crate::segment_info::SegmentInfo;
+use base_words::HasStart;
 
 /// The edits from one start on, with the epoch of the header: the epoch that wrote or accepted
 /// them.
@@ -15,6 +16,14 @@ pub struct Segment {
     pub bodies: BodyList,
     pub is_final: bool,
     pub accepted: bool,
+}
+
+impl HasStart for Segment {
+    ghost start_of = { λ g. g.start };
+
+    fn start(&self) -> u64 {
+        self.start
+    }
 }
 
 impl Segment {

@@ -1,13 +1,14 @@
 //! The segments of a node.
-ghost use Rattle.std.specs.Prelude.{◌≡◌, ◌++◌, [], List, length, take, min as least, not, filter, Option, Some, None, IfOk, IfErr, OnOk, OnErr, IfSome};
+ghost use Rattle.std.specs.Prelude.{◌≡◌, ◌++◌, [], List, length, take, min as least, not, filter, Option, Some, None, OnOk, OnErr, IfSome};
 ghost use Rattle.std.specs.Option.{option_copied};
-ghost use Rattle.journal_core.specs.Segments.{find_segment, put_segment, remove_segment, newest, AreSound, AreRising, IsWithin};
+ghost use Rattle.journal_core.specs.Segments.{find_segment, put_segment, remove_segment, newest, AreSound, IsWithin};
 ghost use Rattle.journal_core.specs.Effects.{appended, finalized};
-ghost use Rattle.journal_core.specs.Places.{IsAt, IsGap, is_old, without, start_of_place, lies_before};
+ghost use Rattle.journal_core.specs.Places.{is_old, without, start_of_place, lies_before};
 
 use crate::OutOfMemory;
 use crate::body_list::BodyList;
 use crate::segment::Segment;
+use base_words::place_in;
 use std::alloc::Global;
 use std::marker::Model;
 
@@ -27,52 +28,6 @@ impl Model for SegmentList {
     ghost view = { λ l. l.items.items };
 
     ghost invariant = { λ l. AreSound l.items.items };
-}
-
-/// The place of the segment with that start, or where it would stand.
-#[tactic(auto, using(crate::proofs::PlaceLaws::sides))]
-fn search(items: &[Segment], start: u64) -> Result<usize, usize>
-    requires { AreRising items.now }
-    ensures found { IfOk result (λ place. IsAt start place items.now) }
-    ensures gap { IfErr result (λ place. IsGap start place items.now) }
-{
-    let mut low = 0;
-    let mut high = items.len();
-    while low < high {
-        let middle = low + (high - low) / 2;
-        let here = items[middle].start;
-        if here == start {
-            return Ok(middle);
-        }
-        if here < start {
-            low = middle + 1;
-        } else {
-            high = middle;
-        }
-    }
-    Err(low)
-}
-
-/// The place of the segment with that start, or where it would stand. The last segment is tried
-/// first: requests mostly speak of it.
-#[tactic(auto, using(crate::proofs::PlaceLaws::sides))]
-fn place_in(items: &[Segment], start: u64) -> Result<usize, usize>
-    requires { AreRising items.now }
-    ensures found { IfOk result (λ place. IsAt start place items.now) }
-    ensures gap { IfErr result (λ place. IsGap start place items.now) }
-{
-    let count = items.len();
-    if count == 0 {
-        return Err(0);
-    }
-    let last = items[count - 1].start;
-    if last == start {
-        return Ok(count - 1);
-    }
-    if last < start {
-        return Err(count);
-    }
-    search(items, start)
 }
 
 impl SegmentList {

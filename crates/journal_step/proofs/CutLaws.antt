@@ -17,7 +17,6 @@ use Rattle.journal_step.specs.Decisions.{HasEffects, HasRemovals}
 use Rattle.journal_core.specs.Stops.{effects_of_row}
 use Rattle.journal_core.specs.Cuts.{Cost, standing, cost_of, effects_standing, name_cost, has_record}
 use Rattle.journal_core.specs.Segments.{AreSound}
-use Rattle.journal_core.specs.Places.{IsAt}
 use Rattle.journal_core.proofs.PlaceLaws.{find_there}
 use Rattle.journal_core.proofs.StopLaws.{unless_all}
 use Rattle.journal_step.specs.declared.budget.Budget.{Budget}
@@ -68,8 +67,7 @@ pub ruleset purges = (purge_none, purge_more, purge_skip, purge_all)
 -- the cost of a removal is that of its segment
 pub removal_cost : (cut : Cut) (gs : List Segment) (i : ℕ) (d : Segment) → AreSound gs → i < length gs → cost_of cut gs (Remove (get_or gs i d).start) ≡ name_cost (get_or gs i d).accepted
 removal_cost cut gs i d s l =
-    let here : IsAt (get_or gs i d).start i gs = record { within = l; there = λ e. ap (λ (g : Segment). g.start) (get_or_default gs i e d l) } in
-    ap (λ o. name_cost (has_record o)) (find_there (get_or gs i d).start i gs d s here)
+    ap (λ o. name_cost (has_record o)) (find_there (get_or gs i d).start i gs d s (record { within = l; there = λ e. ap (λ (g : Segment). g.start) (get_or_default gs i e d l) }))
 
 -- ## What the row leaves
 spends_row : (cut : Cut) (s : NodeState) (r : Request) (es : List Effect) (old new : Budget) → effects_of_row s r ≡ es → SpendsTo old (map (cost_of cut s.segments) es) new

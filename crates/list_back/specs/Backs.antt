@@ -1,5 +1,5 @@
 -- The right answer for a text that is to become a segment.
-use Rattle.std.specs.Prelude.{◌≡◌, ◌≢◌, ℕ, ◌+◌, ◌<◌, ◌≤◌, List, ◌∷◌, ◌++◌, length, map, Some, IsUtf8, Result, Ok, Err, Vec}
+use Rattle.std.specs.Prelude.{◌≡◌, ◌≢◌, ℕ, ◌+◌, ◌<◌, ◌≤◌, List, ◌∷◌, ◌++◌, length, map, true, Some, IsUtf8, Result, Ok, Err, Vec}
 use Rattle.std.specs.declared.alloc.Global.{Global}
 use Rattle.serde_json.specs.Data.{Data, array}
 use Rattle.serde_json.specs.Read.{read}
@@ -13,6 +13,7 @@ use Rattle.list_back.specs.declared.answer.Back.TheVariants.{NotJson, TooLong, B
 use Rattle.list_back.specs.declared.segments.Refusal.{Refusal}
 use Rattle.list_back.specs.declared.segments.Refusal.TheVariants as refusal
 use Rattle.list_back.specs.Pieces.{segment_bytes}
+use Rattle.list_back.specs.Opening.{opens_array}
 use Rattle.list_back.specs.Entries.{IsEntry, AreEntries}
 
 -- the bytes are JSON, an array of these values
@@ -72,13 +73,14 @@ BecomesSegment start epoch bytes segment = (ds : List Data) × IsArray bytes ds 
 abbrev pub IsOfObjects : ℕ → List ℕ → Type 0
 IsOfObjects start bytes = (ds : List Data) × (edits : List EditView) × IsArray bytes ds × (length ds ≤ max_segment) × AreEntries start edits ds
 
--- the right answer for a text
+-- the right answer for a text; lack of memory is one only where the first byte that is no space
+-- opens an array
 abbrev pub IsBack : List ℕ → ℕ → ℕ → Back → Type 0
 IsBack bytes start epoch NotJson = HasNoArray bytes
 IsBack bytes start epoch (TooLong number) = HasLongArray bytes number
 IsBack bytes start epoch (BadEntry index) = HasBadMember start bytes index
 IsBack bytes start epoch (Segment v) = BecomesSegment start epoch bytes v.items
-IsBack bytes start epoch OutOfMemory = Unit {0}
+IsBack bytes start epoch OutOfMemory = opens_array bytes ≡ true
 
 -- the bytes are a segment's file of these edits, from the txid start on, written under that epoch
 pub record IsSegmentUnder (epoch : ℕ) (bytes : List ℕ) (start : ℕ) (edits : List EditView) : Type 0 where

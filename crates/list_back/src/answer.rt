@@ -11,6 +11,6 @@ pub enum Back {
     BadEntry { index: u64 },
     /// The bytes of a segment.
     Segment(Vec<u8>),
-    /// Memory was wanted and not there.
+    /// Memory was wanted and not there, for a text whose first byte that is no space is a `[`.
     OutOfMemory,
 }

@@ -4,6 +4,7 @@
 mod answer;
 mod laws;
 mod making;
+mod opening;
 mod segment_writer;
 mod segments;
 mod worked;

@@ -11,6 +11,7 @@ ghost use Rattle.list_oev.specs.Segment.{IsSegment};
 ghost use Rattle.list_back.specs.Backs.{IsBack, IsBackOf, GivesSegment};
 
 use crate::answer::Back;
+use crate::opening::opens_array;
 use crate::segments::{Refusal, segment_of};
 use journal_core::MAX_SEGMENT;
 use serde_json::Value;
@@ -43,7 +44,8 @@ fn back_of(alloc: Global, room: Vec<u8>, value: &Value, start: u64, epoch: u64) 
 /// listing as JSON this is. Each member of the array is to be the object that the listing has for
 /// an edit at its txid: just its keys, each with its value, in any order, with any spaces between
 /// tokens. Of equal keys the last counts. The frames have 256 entries, the last the rest, and no
-/// tail stands behind them.
+/// tail stands behind them. A text whose first byte that is no space opens no array is `NotJson`,
+/// whatever memory there is.
 pub fn back(alloc: Global, bytes: &[u8], start: u64, epoch: u64) -> Back
     requires some_start { 1 ≤ start }
     requires start_within { start ≤ max_number }
@@ -54,6 +56,9 @@ pub fn back(alloc: Global, bytes: &[u8], start: u64, epoch: u64) -> Back
     // The listing of a segment's edits becomes a segment of those edits, under the epoch.
     ensures listing { (segment : List ℕ) (edits : List EditView) → IsSegment segment start edits → length edits ≤ max_segment → bytes.now ≡ entry_lines start edits → GivesSegment start epoch edits result }
 {
+    if !opens_array(bytes) {
+        return Back::NotJson;
+    }
     // The segment's room is made before the values, so that it doesn't lie behind them in memory.
     let Ok(room) = Vec::with_capacity(alloc, bytes.len() / 2) else {
         return Back::OutOfMemory;

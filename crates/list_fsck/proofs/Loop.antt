@@ -1,11 +1,12 @@
 -- The files of a folder are checked one after the other.
 use Rattle.std.proofs.Common.{◌≡◌, ◌↔◌, ℕ, zero, suc, ◌+◌, ◌≤◌, ◌<◌, List, [], ◌∷◌, ◌++◌, length, take, get_or, refl, sym, ap, subst, ◌∙◌, append_assoc, arith}
-use Rattle.std.specs.Prelude.{Option, Some, None, IsSome, map, slice_index_or, Result, codes, decimal}
+use Rattle.std.specs.Prelude.{Option, Some, None, IsSome, IsOk, map, slice_index_or, Result, codes, decimal}
 use Rattle.std.proofs.lemmas.List.{append-nil, map-append, length-map, take_more}
 use Rattle.base_disk.specs.Files.{Files}
 use Rattle.base_disk.specs.View.{View, IsSound}
 use Rattle.base_disk.specs.Calls.{Rests, Lists, HasCause}
 use Rattle.base_disk.specs.declared.disk.DiskFail.{DiskFail}
+use Rattle.base_disk.proofs.Causes.{none_at_ok}
 use Rattle.base_disk.proofs.Keeping.{rests_same, rests_then}
 use Rattle.list_fsck.specs.declared.finding.Finding.{Finding}
 use Rattle.list_fsck.specs.declared.file_role.FileRole.{FileRole}
@@ -55,9 +56,8 @@ pub record IsChecking (told tells : Type 0) (v0 v : View) (names : List (List �
   pub rests : told → Rests v0 v
   pub so_far : IsSoFar told v0.seen names s
   pub room : s.findings ≤ i
-  pub later : f0 ≤ f
+  pub same : f ≡ f0
   pub steady : was_steady → is_steady
-  pub same : was_steady → f ≡ f0
 
 pub begun : (told : Type 0) (v0 : View) (s : SoFar) (f0 : ℕ) (was_steady : Type 0) → s.text.items ≡ [] → s.findings ≡ 0 → s.before ≡ 0 → IsChecking told told v0 v0 [] 0 s f0 f0 was_steady was_steady
 begun told v0 s f0 was_steady text findings before = record {
@@ -65,9 +65,8 @@ begun told v0 s f0 was_steady text findings before = record {
   rests = λ t. rests_same v0;
   so_far = record { verdicts = []; names_are = refl; text = text; findings = findings; right = λ t. before };
   room = omega (arith, findings);
-  later = omega arith;
+  same = refl;
   steady = λ s. s;
-  same = λ s. refl;
 }
 
 module _ (told : Type 0) (v0 : View) (sound : told → IsSound v0) (f0 : ℕ) (was_steady : Type 0)
@@ -89,18 +88,17 @@ module _ (told : Type 0) (v0 : View) (sound : told → IsSound v0) (f0 : ℕ) (w
     before = adds.before;
   }
 
-  pub one_more : (name bytes : List ℕ) (next : List (List ℕ)) (new : SoFar) → bytes ≡ name → next ≡ names ++ name ∷ [] → AddsVerdict tells v.seen bytes s new
+  pub one_more : IsOk r → (name bytes : List ℕ) (next : List (List ℕ)) (new : SoFar) → bytes ≡ name → next ≡ names ++ name ∷ [] → AddsVerdict tells v.seen bytes s new
       → IsChecking told tells1 v0 v1 next (i + 1) new f0 f1 was_steady steady1
-  one_more name bytes next new same is adds =
+  one_more ok name bytes next new same is adds =
       let here : AddsVerdict told v0.seen name s new = added name new (subst (λ (n : List ℕ). AddsVerdict tells v.seen n s new) same adds) in
       record {
         tells_on = (λ t. on.0 (so_far.tells_on.0 t), λ t. so_far.tells_on.1 (on.1 t));
         rests = still_rests;
         so_far = subst (λ (l : List (List ℕ)). IsSoFar told v0.seen l new) (sym is) (one_more_file told v0.seen names name s new so_far.so_far here);
         room = omega (arith, so_far.room, here.findings, one_at_most here.found);
-        later = omega (arith, so_far.later, cause.later);
+        same = none_at_ok f f1 is_steady steady1 r cause ok ∙ so_far.same;
         steady = λ x. cause.steady (so_far.steady x);
-        same = λ x. cause.same (so_far.steady x) ∙ so_far.same x;
       }
 
 -- ## Names in turn

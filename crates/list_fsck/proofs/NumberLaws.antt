@@ -1,11 +1,13 @@
 -- What is told of the files of a node's numbers and of acceptances.
 use Rattle.std.proofs.Common.{◌≡◌, ℕ, ◌<◌, List, refl, sym, subst, ◌∙◌, inl, inr, arith, true, false, Bool}
-use Rattle.std.specs.Prelude.{Option, Some, None, IfOk, MatchBool, nat_lt, if◌then◌else◌}
+use Rattle.std.specs.Prelude.{Option, Some, None, IfOk, IsErrOf, MatchBool, nat_lt, if◌then◌else◌}
 use Rattle.std.proofs.lemmas.Bool.{ltb-true, ltb-false}
 use Rattle.std.proofs.lemmas.Option.{same_Some}
 use Rattle.base_words.proofs.PaddedLaws.{padded_injective}
 use Rattle.base_disk.specs.Files.{Files}
 use Rattle.base_disk.specs.Calls.{HasCause}
+use Rattle.base_disk.specs.declared.disk.DiskFail.TheVariants.{Failed}
+use Rattle.base_disk.proofs.Causes.{cause_as}
 use Rattle.base_files.specs.Records.{IsNumber, Record, IsRecord, paxos_name}
 use Rattle.base_files.specs.Answers.{GotOf, FoundIn, got_result, found_result}
 use Rattle.base_files.specs.declared.answers.Got.{Got}
@@ -81,18 +83,37 @@ held_right name file (got.BadFile bad) is = is.1
 held_right name file got.DiskFault is = tt
 held_right name file got.OutOfMemory is = tt
 
+held_failed : (g : Got) → IsErrOf (held_of g) Failed → IsErrOf (got_result g) Failed
+held_failed (got.Value held) failed = absurd (cc)
+held_failed (got.BadFile other) failed = absurd (cc)
+held_failed got.DiskFault failed = refl
+held_failed got.OutOfMemory failed = absurd (cc)
+
+held_back : (g : Got) → IsErrOf (got_result g) Failed → IsErrOf (held_of g) Failed
+held_back (got.Value held) failed = absurd (cc)
+held_back (got.BadFile other) failed = absurd (cc)
+held_back got.DiskFault failed = refl
+held_back got.OutOfMemory failed = absurd (cc)
+
 pub held_cause : (f0 f : ℕ) (was now : Type 0) (g : Got) → HasCause f0 f was now (got_result g) → HasCause f0 f was now (held_of g)
-held_cause f0 f was now (got.Value held) cause = record { later = cause.later; failed = λ bad. absurd (cc); steady = cause.steady; no_fault = λ s bad. absurd (cc); same = cause.same }
-held_cause f0 f was now (got.BadFile other) cause = record { later = cause.later; failed = λ bad. absurd (cc); steady = cause.steady; no_fault = λ s bad. absurd (cc); same = cause.same }
-held_cause f0 f was now got.DiskFault cause = record { later = cause.later; failed = λ bad. cause.failed refl; steady = cause.steady; no_fault = λ s bad. cause.no_fault s refl; same = cause.same }
-held_cause f0 f was now got.OutOfMemory cause = record { later = cause.later; failed = λ bad. absurd (cc); steady = cause.steady; no_fault = λ s bad. absurd (cc); same = cause.same }
+held_cause f0 f was now g cause = cause_as f0 f was now (got_result g) (held_of g) cause (held_failed g) (held_back g)
+
+fine_failed : (g : GotRecord) → IsErrOf (fine_of g) Failed → IsErrOf (found_result g) Failed
+fine_failed (record_.Found epoch end) failed = absurd (cc)
+fine_failed record_.Absent failed = absurd (cc)
+fine_failed (record_.BadFile other) failed = absurd (cc)
+fine_failed record_.DiskFault failed = refl
+fine_failed record_.OutOfMemory failed = absurd (cc)
+
+fine_back : (g : GotRecord) → IsErrOf (found_result g) Failed → IsErrOf (fine_of g) Failed
+fine_back (record_.Found epoch end) failed = absurd (cc)
+fine_back record_.Absent failed = absurd (cc)
+fine_back (record_.BadFile other) failed = absurd (cc)
+fine_back record_.DiskFault failed = refl
+fine_back record_.OutOfMemory failed = absurd (cc)
 
 pub fine_cause : (f0 f : ℕ) (was now : Type 0) (g : GotRecord) → HasCause f0 f was now (found_result g) → HasCause f0 f was now (fine_of g)
-fine_cause f0 f was now (record_.Found epoch end) cause = record { later = cause.later; failed = λ bad. absurd (cc); steady = cause.steady; no_fault = λ s bad. absurd (cc); same = cause.same }
-fine_cause f0 f was now record_.Absent cause = record { later = cause.later; failed = λ bad. absurd (cc); steady = cause.steady; no_fault = λ s bad. absurd (cc); same = cause.same }
-fine_cause f0 f was now (record_.BadFile other) cause = record { later = cause.later; failed = λ bad. absurd (cc); steady = cause.steady; no_fault = λ s bad. absurd (cc); same = cause.same }
-fine_cause f0 f was now record_.DiskFault cause = record { later = cause.later; failed = λ bad. cause.failed refl; steady = cause.steady; no_fault = λ s bad. cause.no_fault s refl; same = cause.same }
-fine_cause f0 f was now record_.OutOfMemory cause = record { later = cause.later; failed = λ bad. absurd (cc); steady = cause.steady; no_fault = λ s bad. absurd (cc); same = cause.same }
+fine_cause f0 f was now g cause = cause_as f0 f was now (found_result g) (fine_of g) cause (fine_failed g) (fine_back g)
 
 bad_bytes : (file : Option (List ℕ)) (bytes : List ℕ) → file ≡ Some bytes → ((r : Record) → IsRecord bytes r → ⊥) → IsRecordFile file → ⊥
 bad_bytes file bytes there none (inl absent) = let p = sym absent ∙ there in absurd (cc)

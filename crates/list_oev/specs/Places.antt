@@ -78,8 +78,8 @@ pub record IsFresh (bytes : List ℕ) (r : Reader) : Type 0 where
   pub at : IsAt start [] r
   pub same : r.bytes ≡ bytes
 
--- what an entry tells: its txid and the edit of which its body is the record, or that there is none;
--- memory may be lacking where its body's fields are read
+-- what an entry tells: its txid and the edit of which its body is the record, or that there is
+-- none; memory may be lacking where its body's fields are read
 abbrev pub IsTelling : Entry → Result (Option (ℕ × EditView)) SegmentFault → Type 0
 IsTelling entry (Ok (Some told)) = (told.0 ≡ entry.txid) × IsRecord entry.body.now told.1
 IsTelling entry (Ok None) = ⊥

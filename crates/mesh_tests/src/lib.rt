@@ -1,5 +1,6 @@
-//! Tests of meshes, which the texts of plays don't show: which lists agree, in which order the
-//! epochs put what moved the nodes, and what threads leave that overlap.
+//! Tests of what plays leave and their texts don't show: which lists agree, in which order the
+//! epochs put what moved the nodes, what threads leave that overlap, what a mirror of the nodes
+//! gives, the images of the actors and the files of the nodes.
 #![tactic(auto)]
 
 #[cfg(test)]
@@ -12,6 +13,12 @@ mod drafted;
 mod draws;
 #[cfg(test)]
 mod held;
+#[cfg(test)]
+mod images_left;
+#[cfg(test)]
+mod mirrors;
+#[cfg(test)]
+mod nodes_left;
 #[cfg(test)]
 mod ordering;
 #[cfg(test)]

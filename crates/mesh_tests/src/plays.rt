@@ -5,20 +5,26 @@ use mesh::Mesh;
 use mesh_judge::{agrees, order_events};
 use play_actor::ScriptActor;
 use play_model::{Played, scripts_are_playable};
-use play_order::play;
+use play_order::{PlayedOn, plain_nodes, play_on};
 use play_script::{ReadScript, read_script, scripts_break_no_rule};
 use run_safety::Event;
 use std::alloc::Global;
 use std::test::Fail;
 
-/// What the play of the text's script leaves.
-pub(crate) fn play_text(alloc: Global, text: &[u8]) -> Result<Played<PlainNode>, Fail> {
+/// What the play of the text's script leaves, with its actors' images.
+pub(crate) fn play_text_on(alloc: Global, text: &[u8]) -> Result<PlayedOn<PlainNode>, Fail> {
     scripts_break_no_rule();
     scripts_are_playable();
     let ReadScript::Script(script) = read_script(alloc, text) else {
         return Err("no script".into());
     };
-    Ok(play::<ScriptActor>(alloc, &script)?)
+    let nodes = plain_nodes(alloc, script.nodes())?;
+    Ok(play_on::<ScriptActor, PlainNode>(alloc, nodes, &script)?)
+}
+
+/// What the play of the text's script leaves.
+pub(crate) fn play_text(alloc: Global, text: &[u8]) -> Result<Played<PlainNode>, Fail> {
+    Ok(play_text_on(alloc, text)?.played)
 }
 
 /// The mesh of such a play.

@@ -3,6 +3,7 @@ ghost use Rattle.std.specs.Prelude.{◌≡◌, IfOk};
 
 use play_gates::{Closed, Gate, GateCell, GateSeat, OutOfMemory};
 use std::alloc::{AllocError, Global};
+use std::process::Abort;
 use std::sync::Wait;
 use std::test::Fail;
 use std::thread::{Threads, join};
@@ -29,23 +30,33 @@ impl GateCell for Counter {
     }
 }
 
-type Run = Result<(GateSeat<Counter>, (u64, u64, u64)), OutOfMemory>;
+type Run = Result<(GateSeat<Counter>, Vec<u64>), OutOfMemory>;
 
-fn three<R: Wait>(rt: &R, gate: &Gate<Counter>, seat: GateSeat<Counter>) -> Run
+// So many calls, and what they were answered.
+fn calls<R: Wait>(
+    rt: &R,
+    alloc: Global,
+    gate: &Gate<Counter>,
+    seat: GateSeat<Counter>,
+    count: u64,
+) -> Run
     requires { seat.seat.table_id ≡ gate.now.table.shared.table_id }
     ensures { IfOk result (λ r. (r.0.seat.table_id ≡ seat.seat.table_id) × (r.0.caller ≡ seat.caller)) }
 {
-    let mut seat = seat;
-    let first = gate.act(rt, &mut seat, &1)?;
-    let second = gate.act(rt, &mut seat, &2)?;
-    let third = gate.act(rt, &mut seat, &3)?;
-    Ok((seat, (first, second, third)))
+    let mut own = seat;
+    let mut answers = Vec::new(alloc);
+    for _ in 0..count {
+        let answer = gate.act(rt, &mut own, &1)?;
+        answers.push(answer)?;
+    }
+    Ok((own, answers))
 }
 
 fn two_threads<R: Threads + Wait + Sync>(
     rt: &R,
     alloc: Global,
-) -> Result<(Closed<Counter>, (u64, u64, u64), (u64, u64, u64)), OutOfMemory> {
+    count: u64,
+) -> Result<(Closed<Counter>, Vec<u64>, Vec<u64>), OutOfMemory> {
     let cell = Counter {
         entries: Vec::new(alloc),
     };
@@ -58,11 +69,11 @@ fn two_threads<R: Threads + Wait + Sync>(
         move || -> Run
             requires { (left.seat.table_id ≡ lock.now.table.shared.table_id) × (left.caller ≡ 0) }
             ensures { IfOk result (λ r. (r.0.seat.table_id ≡ lock.entry.now.table.shared.table_id) × (r.0.caller ≡ 0)) }
-        { three(rt, lock, left) },
+        { calls(rt, alloc, lock, left, count) },
         move || -> Run
             requires { (right.seat.table_id ≡ lock.now.table.shared.table_id) × (right.caller ≡ 1) }
             ensures { IfOk result (λ r. (r.0.seat.table_id ≡ lock.entry.now.table.shared.table_id) × (r.0.caller ≡ 1)) }
-        { three(rt, lock, right) },
+        { calls(rt, alloc, lock, right, count) },
     );
     let (left, one) = one?;
     let (right, other) = other?;
@@ -76,19 +87,43 @@ fn two_threads<R: Threads + Wait + Sync>(
     Ok((gate.close(all, keeper), one, other))
 }
 
+// Whether the answers are the numbers from 0 on, each once, and each thread's rise.
+fn are_in_turn(alloc: Global, one: &[u64], other: &[u64]) -> Result<bool, OutOfMemory> {
+    let mut all = Vec::new(alloc);
+    all.extend_from_slice(one)?;
+    all.extend_from_slice(other)?;
+    all.sort()?;
+    let mut once = true;
+    for (k, x) in all.iter().enumerate() {
+        once &= *x == k as u64;
+    }
+    Ok(once && one.is_sorted() && other.is_sorted())
+}
+
+fn answer_in_turn<R: Threads + Wait + Sync + Abort>(
+    rt: &R,
+    alloc: Global,
+    count: u64,
+) -> Result<(), Fail> {
+    let (closed, one, other) = two_threads(rt, alloc, count)?;
+    let Closed { cell, places } = closed;
+    assert!(rt; cell.entries.len() as u64 / 2 == count);
+    let in_turn = are_in_turn(alloc, one.as_slice(), other.as_slice())?;
+    assert!(rt; in_turn);
+    assert!(rt; places.len() == 2);
+    assert!(rt; places[0].as_slice() == one.as_slice());
+    assert!(rt; places[1].as_slice() == other.as_slice());
+    Ok(())
+}
+
 #[test]
 fn six_answers_each_once_and_rising(rt: HostRuntime) -> Result<(), Fail> {
-    let Ok((closed, one, other)) = two_threads(&rt, rt.alloc()) else {
-        panic!(rt; "memory")
-    };
-    let Closed { cell: _, places } = closed;
-    let mut all = vec![in rt.alloc(); one.0, one.1, one.2, other.0, other.1, other.2]?;
-    all.sort()?;
-    assert!(rt; all.as_slice() == [0, 1, 2, 3, 4, 5].as_slice());
-    assert!(rt; one.0 < one.1 && one.1 < one.2);
-    assert!(rt; other.0 < other.1 && other.1 < other.2);
-    assert!(rt; places.len() == 2);
-    assert!(rt; places[0].as_slice() == [one.0, one.1, one.2].as_slice());
-    assert!(rt; places[1].as_slice() == [other.0, other.1, other.2].as_slice());
-    Ok(())
+    answer_in_turn(&rt, rt.alloc(), 3)
+}
+
+// So many turns that each thread often waits for the other: a gate that wakes nobody, or has a
+// thread wait for another word, doesn't come to the end.
+#[test]
+fn many_turns_end(rt: HostRuntime) -> Result<(), Fail> {
+    answer_in_turn(&rt, rt.alloc(), 10_000)
 }

@@ -4,7 +4,7 @@ ghost use Rattle.std.specs.Prelude.{◌≡◌, ◌≢◌, [], length};
 ghost use Rattle.writer_calls.specs.Led.{nodes_of};
 
 use crate::bodies::bodies;
-use journal_core::{BodyList, Node, Peers, Request, permitted_nodes};
+use journal_core::{BodyList, Node, Peers, Request};
 use journal_step::PlainNode;
 use std::alloc::Global;
 use std::process::Abort;
@@ -24,8 +24,8 @@ impl Session {
     fn of(alloc: Global, nodes: Vec<PlainNode>) -> Result<Session, Fail> {
         let peers = PlainPeers::of(alloc, nodes);
         let count = peers.nodes();
-        if !permitted_nodes(count) {
-            return Err("too many nodes, or none".into());
+        if count == 0 {
+            return Err("no nodes".into());
         }
         let writer = QuorumWriter::new(alloc, count)?;
         Ok(Session { peers, writer })

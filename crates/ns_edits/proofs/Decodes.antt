@@ -5,6 +5,7 @@ use Rattle.std.specs.Prelude.{is_some, replicate}
 use Rattle.std.specs.List.{flat_map, AllByRecursion}
 use Rattle.std.proofs.lemmas.Bool.Decides.{nat_tests}
 use Rattle.std.proofs.lemmas.List.{append-nil}
+use Rattle.base_words.specs.Fields.{IsBytes}
 use Rattle.edit_ops.specs.declared.call.Call.{Call}
 use Rattle.edit_ops.specs.declared.kind.OpKind.{OpKind}
 use Rattle.edit_ops.specs.declared.kind.OpKind.TheVariants as kinds
@@ -25,7 +26,6 @@ use Rattle.edit_ops.specs.Grammar.{MayCall, IsEdit, IsRecord}
 use Rattle.edit_ops.proofs.WalkLaws.{fields_good, fields_all_good, runs}
 use Rattle.edit_codec.proofs.DecodeLaws.{right_edit}
 use Rattle.edit_ops.proofs.EditLaws.{edit_matches, again_by}
-use Rattle.edit_ops.proofs.FieldLaws.{IsBytes}
 use Rattle.ns_edits.specs.Decoded.{text_in, number_in, flag_in, at, op_from, edit_from, Opcode, known, edit_kind, opcode_of, read_whole, decoded_as, decoded}
 use Rattle.ns_edits.specs.Keeps.{OnlyRecordsDecode, AreBytes}
 use Rattle.ns_edits.proofs.Splits.{some_is, none≢some}

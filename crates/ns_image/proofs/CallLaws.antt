@@ -5,7 +5,10 @@ use Rattle.std.specs.Prelude.{nat_le, is_none}
 use Rattle.std.specs.List.{flat_map, AllByRecursion}
 use Rattle.std.specs.Int.{w32, w64, to_be_bytes}
 use Rattle.std.proofs.lemmas.Bool.{leb-true, le-leb}
-use Rattle.std.proofs.lemmas.List.{take_at, drop_at, take-append-drop, append-nil, length-append, length-take, length_push}
+use Rattle.std.proofs.lemmas.List.{take_at, drop_at, append-nil, length-append, length-take, length_push}
+use Rattle.base_words.specs.Fields.{IsBytes}
+use Rattle.base_words.proofs.FieldLaws.{Begins, Begins-then, begins_cut, field32, field64}
+use Rattle.edit_ops.proofs.SourceLaws.{ok_is}
 use Rattle.edit_ops.specs.declared.call.Call.{Call}
 use Rattle.ns_tree.specs.declared.inode.Noted.{Noted}
 use Rattle.ns_tree.specs.declared.inode.Row.{Row}
@@ -15,18 +18,17 @@ use Rattle.ns_tree.proofs.Noting.{last_room, sound_noted, rising_later, same_swa
 use Rattle.ns_image.specs.declared.image_cause.ImageCause.TheVariants.{Short, Field}
 use Rattle.ns_image.specs.Layouts.{call_bytes, calls_bytes}
 use Rattle.ns_image.specs.Reading.{client_at, last_txid, new_call_at, call_at, calls_at}
-use Rattle.ns_image.specs.Laws.{IsBytes, IsSent}
-use Rattle.ns_image.proofs.FieldLaws.{bind_ok, ok_is, wanted_ok, Takes, Takes-then, IsBytes-drop, wide32, wide64, whole_takes, whole_again, number_takes, number_again}
+use Rattle.ns_image.specs.Laws.{IsSent}
+use Rattle.ns_image.proofs.FieldLaws.{bind_ok, wanted_ok, whole_takes, whole_again, number_takes, number_again}
 use Rattle.ns_image.proofs.Items.{AreNext, OneTaken, many_take, many_again}
 
 -- ## Clients
-client_takes : {bytes : List ℕ} {x : List ℕ × List ℕ} → IsBytes bytes → client_at bytes ≡ Ok x → Takes bytes x.0 x.1 × (length x.0 ≡ 16)
+client_takes : {bytes : List ℕ} {x : List ℕ × List ℕ} → IsBytes bytes → client_at bytes ≡ Ok x → Begins bytes x.0 x.1 × (length x.0 ≡ 16)
 unfolding client_at
 client_takes {bytes = bytes} {x = x} fits e =
     let g = wanted_ok (nat_le 16 (length bytes)) Short bytes (take 16 bytes, drop 16 bytes) x e in
     let long : 16 ≤ length bytes = leb-true _ _ g.0 in
-    let made : Takes bytes (take 16 bytes) (drop 16 bytes) = record { parts = sym (take-append-drop 16 bytes); rest_fits = IsBytes-drop 16 bytes fits } in
-    subst (λ (y : List ℕ × List ℕ). Takes bytes y.0 y.1 × (length y.0 ≡ 16)) g.1 (made, omega (arith, long, length-take 16 bytes))
+    subst (λ (y : List ℕ × List ℕ). Begins bytes y.0 y.1 × (length y.0 ≡ 16)) g.1 (begins_cut 16 bytes fits, omega (arith, long, length-take 16 bytes))
 
 client_again : (client rest : List ℕ) → length client ≡ 16 → client_at (client ++ rest) ≡ Ok (client, rest)
 unfolding client_at
@@ -40,7 +42,7 @@ is_new None e = refl
 is_new (Some n) e = absurd (cc e)
 
 record NewCallTaken (calls : List Noted) (bytes : List ℕ) (x : Call × List ℕ) : Type 0 where
-  taken : Takes bytes (x.0.client ++ to_be_bytes w32 x.0.number) x.1
+  taken : Begins bytes (x.0.client ++ to_be_bytes w32 x.0.number) x.1
   client : length x.0.client ≡ 16
   number : x.0.number < 2 ^ 32
   new : txid_of x.0 calls ≡ None
@@ -51,10 +53,10 @@ new_call_takes {calls = calls} {bytes = bytes} {x = x} fits e =
     let c = bind_ok e in
     let n = bind_ok c.2 in
     let tc = client_takes {bytes = bytes} {x = c.0} fits c.1 in
-    let tn = whole_takes w32 (2 ^ 32) wide32 tc.0.rest_fits n.1 in
+    let tn = whole_takes field32 tc.0.left n.1 in
     let call : Call = record { client = c.0.0; number = n.0.0 } in
     let g = wanted_ok (is_none (txid_of call calls)) Field bytes (call, n.0.1) x n.2 in
-    subst (λ (y : Call × List ℕ). NewCallTaken calls bytes y) g.1 (record { taken = Takes-then tc.0 tn.0; client = tc.1; number = tn.1; new = is_new (txid_of call calls) g.0 })
+    subst (λ (y : Call × List ℕ). NewCallTaken calls bytes y) g.1 (record { taken = Begins-then tc.0 tn.0; client = tc.1; number = tn.1; new = is_new (txid_of call calls) g.0 })
 
 -- a call that may come after others, up to the image's txid
 pub record MayFollow (txid : ℕ) (calls : List Noted) (one : Noted) : Type 0 where
@@ -70,10 +72,10 @@ call_takes txid calls bytes x fits e =
     let c = bind_ok e in
     let a = bind_ok c.2 in
     let tc = new_call_takes {calls = calls} {bytes = bytes} {x = c.0} fits c.1 in
-    let ta = number_takes w64 (2 ^ 64) wide64 _ tc.taken.rest_fits a.1 in
+    let ta = number_takes field64 _ tc.taken.left a.1 in
     let one : Noted = record { call = c.0.0; txid = a.0.0 } in
-    let text : Takes bytes (call_bytes one) a.0.1 = subst (λ (t : List ℕ). Takes bytes t a.0.1)
-    (append_assoc c.0.0.client (to_be_bytes w32 c.0.0.number) (to_be_bytes w64 a.0.0)) (Takes-then tc.taken ta.0) in
+    let text : Begins bytes (call_bytes one) a.0.1 = subst (λ (t : List ℕ). Begins bytes t a.0.1)
+    (append_assoc c.0.0.client (to_be_bytes w32 c.0.0.number) (to_be_bytes w64 a.0.0)) (Begins-then tc.taken ta.0) in
     let may : MayFollow txid calls one = record { sent = record { client = tc.client; number = tc.number }; new = tc.new; above = ta.1; most = ta.2 } in
     subst (λ (y : List Noted × List ℕ). OneTaken (call_at txid) call_bytes (MayFollow txid) calls bytes y) (ok_is (calls ++ one ∷ [], a.0.1) x a.2)
     (record { item = one; all = refl; taken = text; may = may })
@@ -88,9 +90,9 @@ call_again txid fits calls one rest may =
     ap (call_at txid calls) regrouped
     ∙ rw (
       client_again one.call.client (to_be_bytes w32 one.call.number ++ (to_be_bytes w64 one.txid ++ rest)) may.sent.client,
-      whole_again w32 (2 ^ 32) wide32 one.call.number (to_be_bytes w64 one.txid ++ rest) may.sent.number,
+      whole_again field32 one.call.number (to_be_bytes w64 one.txid ++ rest) may.sent.number,
       new,
-      number_again w64 (2 ^ 64) wide64 (last_txid calls + 1) txid Field one.txid rest (omega (arith, most, fits)) may.above most,
+      number_again field64 (last_txid calls + 1) txid Field one.txid rest (omega (arith, most, fits)) may.above most,
     ) refl
   where
     by : (a b c : List ℕ) → (a ++ (b ++ c)) ++ rest ≡ a ++ (b ++ (c ++ rest))
@@ -108,7 +110,7 @@ few_calls : (n : ℕ) → n ≤ 1024 → n < 2 ^ 32
 few_calls n le = omega (arith, le)
 
 pub record AllCallsTaken (layout txid : ℕ) (bytes : List ℕ) (x : List Noted × List ℕ) : Type 0 where
-  pub taken : Takes bytes (calls_bytes layout x.0) x.1
+  pub taken : Begins bytes (calls_bytes layout x.0) x.1
   pub layout_is : HasLayout layout x.0
   pub few : length x.0 ≤ 1024
   pub good : MayGoOnTo txid [] x.0
@@ -118,12 +120,12 @@ unfolding calls_at
 calls_take zero txid bytes x low high fits e = absurd (omega (arith, low))
 calls_take (suc zero) txid bytes x low high fits e =
     subst (λ (y : List Noted × List ℕ). AllCallsTaken 1 txid bytes y) (ok_is ([], bytes) x e)
-    (record { taken = record { parts = refl; rest_fits = fits }; layout_is = inl (refl, refl); few = omega arith; good = tt })
+    (record { taken = record { spelled = refl; left = fits }; layout_is = inl (refl, refl); few = omega arith; good = tt })
 calls_take (suc (suc zero)) txid bytes x low high fits e =
     let c = bind_ok e in
-    let t = number_takes w32 (2 ^ 32) wide32 _ fits c.1 in
-    let m = many_take (call_at txid) call_bytes (MayFollow txid) (call_takes txid) c.0.0 [] c.0.1 x t.0.rest_fits c.2 in
-    let counted : Takes bytes (calls_bytes 2 m.more) x.1 = subst (λ (n : ℕ). Takes bytes (to_be_bytes w32 n ++ flat_map call_bytes m.more) x.1) (sym m.counted) (Takes-then t.0 m.taken) in
+    let t = number_takes field32 _ fits c.1 in
+    let m = many_take (call_at txid) call_bytes (MayFollow txid) (call_takes txid) c.0.0 [] c.0.1 x t.0.left c.2 in
+    let counted : Begins bytes (calls_bytes 2 m.more) x.1 = subst (λ (n : ℕ). Begins bytes (to_be_bytes w32 n ++ flat_map call_bytes m.more) x.1) (sym m.counted) (Begins-then t.0 m.taken) in
     subst (λ (ns : List Noted). AllCallsTaken 2 txid bytes (ns, x.1)) (sym m.all) (record { taken = counted; layout_is = inr refl; few = omega (arith, t.2, m.counted); good = m.good })
 calls_take (suc (suc (suc n))) txid bytes x low high fits e = absurd (omega (arith, high))
 
@@ -135,7 +137,7 @@ calls_again layout txid calls rest (inr h) fits few good =
     let regrouped : calls_bytes 2 calls ++ rest ≡ to_be_bytes w32 (length calls) ++ (flat_map call_bytes calls ++ rest) =
     append_assoc (to_be_bytes w32 (length calls)) (flat_map call_bytes calls) rest in
     let two : calls_at 2 txid (calls_bytes 2 calls ++ rest) ≡ Ok (calls, rest) = ap (calls_at 2 txid) regrouped
-    ∙ rw (number_again w32 (2 ^ 32) wide32 0 most_calls Field (length calls) (flat_map call_bytes calls ++ rest) (few_calls (length calls) few)
+    ∙ rw (number_again field32 0 most_calls Field (length calls) (flat_map call_bytes calls ++ rest) (few_calls (length calls) few)
     (omega arith) few) (many_again (call_at txid) call_bytes (MayFollow txid) (call_again txid fits) [] calls rest good) in
     subst (λ (n : ℕ). calls_at n txid (calls_bytes n calls ++ rest) ≡ Ok (calls, rest)) (sym h) two
 

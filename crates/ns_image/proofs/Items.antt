@@ -4,12 +4,15 @@ use Rattle.std.proofs.Common.{◌≡◌, ℕ, zero, suc, ◌+◌, ◌-◌, ◌<�
 use Rattle.std.specs.List.{flat_map}
 use Rattle.std.proofs.lemmas.List.{append-nil}
 use Rattle.std.proofs.lemmas.List.Concat.{flat_map-cons}
+use Rattle.base_words.proofs.Lists.{one_left, none_left}
+use Rattle.base_words.specs.Fields.{IsBytes}
+use Rattle.base_words.proofs.FieldLaws.{Begins, Begins-then}
+use Rattle.edit_ops.proofs.SourceLaws.{ok_is}
 use Rattle.ns_image.specs.declared.image_fault.ImageFault.{ImageFault}
 use Rattle.ns_image.specs.declared.image_fault.ReadError.{ReadError}
 use Rattle.ns_image.specs.declared.image_fault.ReadError.TheVariants as errors
 use Rattle.ns_image.specs.Reading.{Fails, repeated}
-use Rattle.ns_image.specs.Laws.{IsBytes}
-use Rattle.ns_image.proofs.FieldLaws.{bind_ok, ok_is, Takes, Takes-then}
+use Rattle.ns_image.proofs.FieldLaws.{bind_ok}
 
 -- ## A loop over a count
 module _ {S : Type 0} (step : S → List ℕ → Result (S × List ℕ) ImageFault) where
@@ -17,8 +20,7 @@ module _ {S : Type 0} (step : S → List ℕ → Result (S × List ℕ) ImageFau
       → repeated step (count - i) state bytes ≡ total → repeated step (count - (i + 1)) next after ≡ total
   unfolding repeated
   goes_on count i state bytes next after total lt h so_far =
-      let k : count - i ≡ suc (count - (i + 1)) = omega arith in
-      let one : repeated step (count - i) state bytes ≡ repeated step (count - (i + 1)) next after = rw (k, h) refl in
+      let one : repeated step (count - i) state bytes ≡ repeated step (count - (i + 1)) next after = rw (one_left lt, h) refl in
       sym one ∙ so_far
 
   pub ends : (e : ReadError) (count i : ℕ) (state : S) (bytes : List ℕ) (total : Result (S × List ℕ) ImageFault) → i < count → Fails e (step state bytes)
@@ -26,15 +28,13 @@ module _ {S : Type 0} (step : S → List ℕ → Result (S × List ℕ) ImageFau
   unfolding repeated
   ends errors.Memory count i state bytes total lt h so_far = tt
   ends (errors.Fault f) count i state bytes total lt h so_far =
-      let k : count - i ≡ suc (count - (i + 1)) = omega arith in
-      let one : repeated step (count - i) state bytes ≡ Err f = rw (k, h) refl in
+      let one : repeated step (count - i) state bytes ≡ Err f = rw (one_left lt, h) refl in
       sym so_far ∙ one
 
   pub is_done : (count i : ℕ) (state : S) (bytes : List ℕ) (total : Result (S × List ℕ) ImageFault) → count ≤ i → repeated step (count - i) state bytes ≡ total → total ≡ Ok (state, bytes)
   unfolding repeated
   is_done count i state bytes total le so_far =
-      let k : count - i ≡ 0 = omega arith in
-      let one : repeated step (count - i) state bytes ≡ Ok (state, bytes) = rw k refl in
+      let one : repeated step (count - i) state bytes ≡ Ok (state, bytes) = rw (none_left le) refl in
       sym so_far ∙ one
 
   pub at_first : (count : ℕ) (state : S) (bytes : List ℕ) → repeated step (count - 0) state bytes ≡ repeated step count state bytes
@@ -50,13 +50,13 @@ module _ {A : Type 0} (step : List A → List ℕ → Result (List A × List ℕ
   pub record OneTaken (items : List A) (bytes : List ℕ) (x : List A × List ℕ) : Type 0 where
     pub item : A
     pub all : x.0 ≡ items ++ item ∷ []
-    pub taken : Takes bytes (write item) x.1
+    pub taken : Begins bytes (write item) x.1
     pub may : May items item
 
   pub record ManyTaken (count : ℕ) (items : List A) (bytes : List ℕ) (x : List A × List ℕ) : Type 0 where
     pub more : List A
     pub all : x.0 ≡ items ++ more
-    pub taken : Takes bytes (flat_map write more) x.1
+    pub taken : Begins bytes (flat_map write more) x.1
     pub counted : length more ≡ count
     pub good : AreNext items more
 
@@ -65,15 +65,15 @@ module _ {A : Type 0} (step : List A → List ℕ → Result (List A × List ℕ
   unfolding repeated
   many_take one_takes zero items bytes x fits e =
       subst (λ (y : List A × List ℕ). ManyTaken 0 items bytes y) (ok_is (items, bytes) x e)
-      (record { more = []; all = sym (append-nil items); taken = record { parts = refl; rest_fits = fits }; counted = refl; good = tt })
+      (record { more = []; all = sym (append-nil items); taken = record { spelled = refl; left = fits }; counted = refl; good = tt })
   many_take one_takes (suc count) items bytes x fits e =
       let a = bind_ok e in
       let t = one_takes items bytes a.0 fits a.1 in
-      let rest = many_take one_takes count a.0.0 a.0.1 x t.taken.rest_fits a.2 in
+      let rest = many_take one_takes count a.0.0 a.0.1 x t.taken.left a.2 in
       record {
         more = t.item ∷ rest.more;
         all = rest.all ∙ ap (λ (ys : List A). ys ++ rest.more) t.all ∙ append_assoc items (t.item ∷ []) rest.more;
-        taken = subst (λ (text : List ℕ). Takes bytes text x.1) (sym (flat_map-cons write t.item rest.more)) (Takes-then t.taken rest.taken);
+        taken = subst (λ (text : List ℕ). Begins bytes text x.1) (sym (flat_map-cons write t.item rest.more)) (Begins-then t.taken rest.taken);
         counted = ap suc rest.counted;
         good = (t.may, subst (λ (ys : List A). AreNext ys rest.more) t.all rest.good);
       }

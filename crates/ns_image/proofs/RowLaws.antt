@@ -1,5 +1,8 @@
 -- Rows that are read are those that were written, and what was written is read again.
 use Rattle.std.proofs.Common.{◌≡◌, ℕ, ◌≤◌, true, List, [], ◌∷◌, ◌++◌, length, Ok, refl, ap, subst, ◌∙◌, append_assoc, arith}
+use Rattle.base_words.specs.Fields.{IsBytes}
+use Rattle.base_words.proofs.FieldLaws.{Begins, Begins-then}
+use Rattle.edit_ops.proofs.SourceLaws.{ok_is}
 use Rattle.ns_tree.specs.declared.inode.Inode.{Inode}
 use Rattle.ns_tree.specs.declared.inode.Inode.TheVariants.{Dir, File}
 use Rattle.ns_tree.specs.declared.inode.Row.{Row}
@@ -11,8 +14,7 @@ use Rattle.ns_image.specs.declared.image_cause.ImageCause.TheVariants.{Order, No
 use Rattle.ns_image.specs.Layouts.{text_bytes, inode_bytes, row_bytes}
 use Rattle.ns_image.specs.Reading.{root_at, next_path_at, row_at}
 use Rattle.ns_image.specs.Rows.{MayStand}
-use Rattle.ns_image.specs.Laws.{IsBytes}
-use Rattle.ns_image.proofs.FieldLaws.{bind_ok, ok_is, wanted_ok, Takes, Takes-then, byte_takes, byte_again, path_takes, path_again}
+use Rattle.ns_image.proofs.FieldLaws.{bind_ok, wanted_ok, byte_takes, byte_again, path_takes, path_again}
 use Rattle.ns_image.proofs.Items.{AreNext, OneTaken}
 use Rattle.ns_image.proofs.InodeLaws.{fields_bytes, dir_takes, dir_again, inode_takes, inode_again}
 
@@ -27,7 +29,7 @@ dir_kind : (i : Inode) → is_dir i ≡ true → 0 ∷ fields_bytes i ≡ inode_
 dir_kind (Dir m p u g n s) d = refl
 dir_kind (File r m a b p u g ls c) d = absurd (cc d)
 
-pub root_takes : {bytes : List ℕ} {x : Inode × List ℕ} → IsBytes bytes → root_at bytes ≡ Ok x → Takes bytes (row_bytes (root_row x.0)) x.1 × IsInode x.0 × (is_dir x.0 ≡ true)
+pub root_takes : {bytes : List ℕ} {x : Inode × List ℕ} → IsBytes bytes → root_at bytes ≡ Ok x → Begins bytes (row_bytes (root_row x.0)) x.1 × IsInode x.0 × (is_dir x.0 ≡ true)
 unfolding root_at
 root_takes {bytes = bytes} {x = x} fits e =
     let p = bind_ok e in
@@ -35,13 +37,13 @@ root_takes {bytes = bytes} {x = x} fits e =
     let k = bind_ok f.2 in
     let w = wanted_ok (is_root p.0.0) Order bytes p.0 f.0 f.1 in
     let tp = path_takes {bytes = bytes} {x = p.0} fits p.1 in
-    let tf : Takes bytes (text_bytes (47 ∷ [])) f.0.1 = subst (λ (y : List ℕ × List ℕ). Takes bytes (text_bytes (47 ∷ [])) y.1) w.1
-    (subst (λ (q : List ℕ). Takes bytes (text_bytes q) p.0.1) (same_text_is p.0.0 (47 ∷ []) w.0) tp.0) in
-    let tk = byte_takes {high = 0} {bytes = f.0.1} {x = k.0} tf.rest_fits k.1 in
-    let kind : Takes f.0.1 (0 ∷ []) k.0.1 = subst (λ (n : ℕ). Takes f.0.1 (n ∷ []) k.0.1) (zero_byte k.0.0 tk.1) tk.0 in
-    let td = dir_takes {bytes = k.0.1} {x = x} tk.0.rest_fits k.2 in
-    let inode : Takes f.0.1 (inode_bytes x.0) x.1 = subst (λ (t : List ℕ). Takes f.0.1 t x.1) (dir_kind x.0 td.2) (Takes-then kind td.0) in
-    (Takes-then tf inode, td.1, td.2)
+    let tf : Begins bytes (text_bytes (47 ∷ [])) f.0.1 = subst (λ (y : List ℕ × List ℕ). Begins bytes (text_bytes (47 ∷ [])) y.1) w.1
+    (subst (λ (q : List ℕ). Begins bytes (text_bytes q) p.0.1) (same_text_is p.0.0 (47 ∷ []) w.0) tp.0) in
+    let tk = byte_takes {high = 0} {bytes = f.0.1} {x = k.0} tf.left k.1 in
+    let kind : Begins f.0.1 (0 ∷ []) k.0.1 = subst (λ (n : ℕ). Begins f.0.1 (n ∷ []) k.0.1) (zero_byte k.0.0 tk.1) tk.0 in
+    let td = dir_takes {bytes = k.0.1} {x = x} tk.0.left k.2 in
+    let inode : Begins f.0.1 (inode_bytes x.0) x.1 = subst (λ (t : List ℕ). Begins f.0.1 t x.1) (dir_kind x.0 td.2) (Begins-then kind td.0) in
+    (Begins-then tf inode, td.1, td.2)
 
 pub root_again : (inode : Inode) (rest : List ℕ) → IsInode inode → is_dir inode ≡ true → root_at (row_bytes (root_row inode) ++ rest) ≡ Ok (inode, rest)
 unfolding root_at
@@ -57,7 +59,7 @@ root_again (Dir m p u g n s) rest good dir =
 
 -- ## One row more
 record PathTaken (rows : List Row) (bytes : List ℕ) (x : List ℕ × List ℕ) : Type 0 where
-  taken : Takes bytes (text_bytes x.0) x.1
+  taken : Begins bytes (text_bytes x.0) x.1
   path : is_path x.0 ≡ true
   short : length x.0 ≤ 1000
   last : is_after_last x.0 rows ≡ true
@@ -81,10 +83,10 @@ row_takes rows bytes x fits e =
     let p = bind_ok e in
     let i = bind_ok p.2 in
     let tp = next_path_takes {rows = rows} {bytes = bytes} {x = p.0} fits p.1 in
-    let ti = inode_takes {bytes = p.0.1} {x = i.0} tp.taken.rest_fits i.1 in
+    let ti = inode_takes {bytes = p.0.1} {x = i.0} tp.taken.left i.1 in
     let may : MayStand rows (pair p.0.0 i.0.0) = record { path = tp.path; short = tp.short; inode = ti.1; last = tp.last; parent = tp.parent } in
     subst (λ (y : List Row × List ℕ). OneTaken row_at row_bytes MayStand rows bytes y) (ok_is (rows ++ pair p.0.0 i.0.0 ∷ [], i.0.1) x i.2)
-    (record { item = pair p.0.0 i.0.0; all = refl; taken = Takes-then tp.taken ti.0; may = may })
+    (record { item = pair p.0.0 i.0.0; all = refl; taken = Begins-then tp.taken ti.0; may = may })
 
 pub row_again : (rows : List Row) (row : Row) (rest : List ℕ) → MayStand rows row → row_at rows (row_bytes row ++ rest) ≡ Ok (rows ++ row ∷ [], rest)
 unfolding row_at next_path_at

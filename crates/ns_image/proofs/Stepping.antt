@@ -3,6 +3,7 @@ use Rattle.std.proofs.Common.{◌≡◌, ℕ, ◌+◌, ◌-◌, ◌<◌, ◌≤�
 use Rattle.std.specs.Ordering.{is_lt}
 use Rattle.std.proofs.lemmas.Bool.{and_parts}
 use Rattle.std.proofs.lemmas.List.{length_push}
+use Rattle.edit_ops.proofs.SourceLaws.{ok_is}
 use Rattle.ns_tree.specs.declared.inode.Inode.{Inode}
 use Rattle.ns_tree.specs.declared.inode.Noted.{Noted}
 use Rattle.ns_tree.specs.declared.inode.Row.{Row}
@@ -16,7 +17,7 @@ use Rattle.ns_image.specs.declared.image_fault.ReadError.{ReadError}
 use Rattle.ns_image.specs.declared.image_fault.ReadError.TheVariants as errors
 use Rattle.ns_image.specs.Reading.{◌>>=◌, Fails, wanted, is_short_path, text_at, path_at, inode_at, next_path_at, row_at, repeated, tree_at, calls_at, head_at, told}
 use Rattle.ns_image.specs.Rows.{MayStand, MayTake, HasTaken, IsNext, EndsAt, is_above_last, path_after, row_after}
-use Rattle.ns_image.proofs.FieldLaws.{bind_ok, ok_is, wanted_ok}
+use Rattle.ns_image.proofs.FieldLaws.{bind_ok, wanted_ok}
 use Rattle.ns_image.proofs.Items.{goes_on, ends, is_done, at_first}
 use Rattle.ns_image.proofs.LastRow.{parent_by_last, ends_next}
 

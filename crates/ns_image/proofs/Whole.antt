@@ -6,6 +6,9 @@ use Rattle.std.specs.Int.{w32, w64, to_be_bytes}
 use Rattle.std.proofs.lemmas.Bool.{eqb-true}
 use Rattle.std.proofs.lemmas.List.{append-nil, nil_from_length}
 use Rattle.std.proofs.lemmas.List.Concat.{flat_map-cons}
+use Rattle.base_words.specs.Fields.{IsBytes}
+use Rattle.base_words.proofs.FieldLaws.{Begins, Begins-then, field32, field64}
+use Rattle.edit_ops.proofs.SourceLaws.{ok_is}
 use Rattle.ns_tree.specs.declared.inode.Row.{Row}
 use Rattle.ns_tree.specs.declared.inode.Noted.{Noted}
 use Rattle.ns_tree.specs.Space.{Space}
@@ -17,8 +20,8 @@ use Rattle.ns_image.specs.declared.answer.ReadImage.TheVariants.{Image}
 use Rattle.ns_image.specs.Layouts.{magic, row_bytes, calls_bytes, image_bytes}
 use Rattle.ns_image.specs.Reading.{row_at, tree_at, calls_at, head_at, Told, told, answer, reading_of}
 use Rattle.ns_image.specs.Rows.{MayStand}
-use Rattle.ns_image.specs.Laws.{IsBytes, IsImage, IsWithin}
-use Rattle.ns_image.proofs.FieldLaws.{bind_ok, ok_is, wanted_ok, Takes, Takes-then, wide32, wide64, number_takes, number_again}
+use Rattle.ns_image.specs.Laws.{IsImage, IsWithin}
+use Rattle.ns_image.proofs.FieldLaws.{bind_ok, wanted_ok, number_takes, number_again}
 use Rattle.ns_image.proofs.RowLaws.{root_row, root_takes, root_again, row_takes, row_again}
 use Rattle.ns_image.proofs.Items.{many_take, many_again}
 use Rattle.ns_image.proofs.Trees.{shape_of, grown, root_alone}
@@ -30,7 +33,7 @@ abbrev front_bytes : ℕ → ℕ → List ℕ
 front_bytes layout txid = to_be_bytes w32 magic ++ (to_be_bytes w32 layout ++ to_be_bytes w64 txid)
 
 record HeadTaken (bytes : List ℕ) (x : (ℕ × ℕ) × List ℕ) : Type 0 where
-  taken : Takes bytes (front_bytes x.0.0 x.0.1) x.1
+  taken : Begins bytes (front_bytes x.0.0 x.0.1) x.1
   low : 1 ≤ x.0.0
   high : x.0.0 ≤ 2
   most : x.0.1 ≤ 2 ^ 62
@@ -44,21 +47,21 @@ head_takes {bytes = bytes} {x = x} fits e =
     let m = bind_ok e in
     let l = bind_ok m.2 in
     let t = bind_ok l.2 in
-    let tm = number_takes w32 (2 ^ 32) wide32 _ fits m.1 in
-    let tl = number_takes w32 (2 ^ 32) wide32 _ tm.0.rest_fits l.1 in
-    let tt_ = number_takes w64 (2 ^ 64) wide64 _ tl.0.rest_fits t.1 in
-    let first : Takes bytes (to_be_bytes w32 magic) m.0.1 = subst (λ (n : ℕ). Takes bytes (to_be_bytes w32 n) m.0.1) (one_magic m.0.0 tm.1 tm.2) tm.0 in
+    let tm = number_takes field32 _ fits m.1 in
+    let tl = number_takes field32 _ tm.0.left l.1 in
+    let tt_ = number_takes field64 _ tl.0.left t.1 in
+    let first : Begins bytes (to_be_bytes w32 magic) m.0.1 = subst (λ (n : ℕ). Begins bytes (to_be_bytes w32 n) m.0.1) (one_magic m.0.0 tm.1 tm.2) tm.0 in
     subst (λ (y : (ℕ × ℕ) × List ℕ). HeadTaken bytes y) (ok_is ((l.0.0, t.0.0), t.0.1) x t.2)
-    (record { taken = Takes-then first (Takes-then tl.0 tt_.0); low = tl.1; high = tl.2; most = tt_.2 })
+    (record { taken = Begins-then first (Begins-then tl.0 tt_.0); low = tl.1; high = tl.2; most = tt_.2 })
 
 head_again : (layout txid : ℕ) (rest : List ℕ) → 1 ≤ layout → layout ≤ 2 → txid ≤ 2 ^ 62
     → head_at (to_be_bytes w32 magic ++ (to_be_bytes w32 layout ++ (to_be_bytes w64 txid ++ rest))) ≡ Ok ((layout, txid), rest)
 unfolding head_at
 head_again layout txid rest low high most =
     rw (
-      number_again w32 (2 ^ 32) wide32 magic magic Magic magic (to_be_bytes w32 layout ++ (to_be_bytes w64 txid ++ rest)) (omega arith) (omega arith) (omega arith),
-      number_again w32 (2 ^ 32) wide32 1 2 Layout layout (to_be_bytes w64 txid ++ rest) (omega (arith, high)) low high,
-      number_again w64 (2 ^ 64) wide64 0 (2 ^ 62) Field txid rest (omega (arith, most)) (omega arith) most,
+      number_again field32 magic magic Magic magic (to_be_bytes w32 layout ++ (to_be_bytes w64 txid ++ rest)) (omega arith) (omega arith) (omega arith),
+      number_again field32 1 2 Layout layout (to_be_bytes w64 txid ++ rest) (omega (arith, high)) low high,
+      number_again field64 0 (2 ^ 62) Field txid rest (omega (arith, most)) (omega arith) most,
     ) refl
 
 -- ## The tree
@@ -66,7 +69,7 @@ abbrev tree_bytes : List Row → List ℕ
 tree_bytes pairs = to_be_bytes w32 (length pairs) ++ flat_map row_bytes pairs
 
 record TreeTaken (bytes : List ℕ) (x : List Row × List ℕ) : Type 0 where
-  taken : Takes bytes (tree_bytes x.0) x.1
+  taken : Begins bytes (tree_bytes x.0) x.1
   counted : length x.0 < 2 ^ 32
   tree : IsTree (record { pairs = x.0; calls = [] })
 
@@ -75,14 +78,14 @@ unfolding tree_at
 tree_takes {bytes = bytes} {x = x} fits e =
     let c = bind_ok e in
     let r = bind_ok c.2 in
-    let tc = number_takes w32 (2 ^ 32) wide32 _ fits c.1 in
-    let tr = root_takes {bytes = c.0.1} {x = r.0} tc.0.rest_fits r.1 in
+    let tc = number_takes field32 _ fits c.1 in
+    let tr = root_takes {bytes = c.0.1} {x = r.0} tc.0.left r.1 in
     let root = root_row r.0.0 in
-    let rest = many_take row_at row_bytes MayStand row_takes (c.0.0 - 1) (root ∷ []) r.0.1 x tr.0.rest_fits r.2 in
-    let rows : Takes c.0.1 (flat_map row_bytes (root ∷ rest.more)) x.1 =
-    subst (λ (t : List ℕ). Takes c.0.1 t x.1) (sym (flat_map-cons row_bytes root rest.more)) (Takes-then tr.0 rest.taken) in
+    let rest = many_take row_at row_bytes MayStand row_takes (c.0.0 - 1) (root ∷ []) r.0.1 x tr.0.left r.2 in
+    let rows : Begins c.0.1 (flat_map row_bytes (root ∷ rest.more)) x.1 =
+    subst (λ (t : List ℕ). Begins c.0.1 t x.1) (sym (flat_map-cons row_bytes root rest.more)) (Begins-then tr.0 rest.taken) in
     let count : c.0.0 ≡ length (root ∷ rest.more) = omega (arith, rest.counted, tc.1) in
-    let all : Takes bytes (tree_bytes (root ∷ rest.more)) x.1 = subst (λ (n : ℕ). Takes bytes (to_be_bytes w32 n ++ flat_map row_bytes (root ∷ rest.more)) x.1) count (Takes-then tc.0 rows) in
+    let all : Begins bytes (tree_bytes (root ∷ rest.more)) x.1 = subst (λ (n : ℕ). Begins bytes (to_be_bytes w32 n ++ flat_map row_bytes (root ∷ rest.more)) x.1) count (Begins-then tc.0 rows) in
     subst (λ (ys : List Row). TreeTaken bytes (ys, x.1)) (sym rest.all)
     (record { taken = all; counted = omega (arith, sym count, tc.2); tree = grown (root ∷ []) rest.more rest.good (root_alone r.0.0 tr.1 tr.2) })
 
@@ -102,7 +105,7 @@ tree_again s rest h few =
     let read : tree_at (tree_bytes (root ∷ shape.more) ++ rest) ≡ Ok (root ∷ shape.more, rest) =
     ap tree_at regrouped
     ∙ rw (
-      number_again w32 (2 ^ 32) wide32 1 (2 ^ 32 - 1) Field (length (root ∷ shape.more)) (row_bytes root ++ after) one (omega arith) (omega (arith, one)),
+      number_again field32 1 (2 ^ 32 - 1) Field (length (root ∷ shape.more)) (row_bytes root ++ after) one (omega arith) (omega (arith, one)),
       root_again shape.root after shape.good shape.dir,
       count,
     ) (many_again row_at row_bytes MayStand row_again (root ∷ []) shape.more rest shape.next) in
@@ -125,14 +128,14 @@ one_spelling bytes image fits e =
     let t = bind_ok h.2 in
     let c = bind_ok t.2 in
     let th = head_takes {bytes = bytes} {x = h.0} fits h.1 in
-    let tr = tree_takes {bytes = h.0.1} {x = t.0} th.taken.rest_fits t.1 in
-    let tc = calls_take h.0.0.0 h.0.0.1 t.0.1 c.0 th.low th.high tr.taken.rest_fits c.1 in
+    let tr = tree_takes {bytes = h.0.1} {x = t.0} th.taken.left t.1 in
+    let tc = calls_take h.0.0.0 h.0.0.1 t.0.1 c.0 th.low th.high tr.taken.left c.1 in
     let made : Told = record { layout = h.0.0.0; space = record { pairs = t.0.0; calls = c.0.0 }; txid = h.0.0.1 } in
     let w = wanted_ok (length c.0.1 == 0) Trailing c.0.1 made image c.2 in
     let nothing : c.0.1 ≡ [] = no_rest 0 c.0.1 w.0 in
-    let parts = Takes-then th.taken (Takes-then tr.taken tc.taken) in
+    let parts = Begins-then th.taken (Begins-then tr.taken tc.taken) in
     let spelled : bytes ≡ image_bytes made.layout made.space made.txid =
-    parts.parts
+    parts.spelled
     ∙ (ap (λ (r : List ℕ). (front_bytes h.0.0.0 h.0.0.1 ++ (tree_bytes t.0.0 ++ calls_bytes h.0.0.0 c.0.0)) ++ r) nothing
     ∙ (append-nil (front_bytes h.0.0.0 h.0.0.1 ++ (tree_bytes t.0.0 ++ calls_bytes h.0.0.0 c.0.0))
     ∙ grouped (to_be_bytes w32 magic) (to_be_bytes w32 h.0.0.0) (to_be_bytes w64 h.0.0.1) (to_be_bytes w32 (length t.0.0)) (flat_map row_bytes t.0.0) (calls_bytes h.0.0.0 c.0.0))) in

@@ -1,5 +1,5 @@
 -- What has an image.
-use Rattle.std.specs.Prelude.{◌≡◌, ◌⊎◌, ℕ, ◌^◌, ◌<◌, ◌≤◌, List, [], length, slice_index}
+use Rattle.std.specs.Prelude.{◌≡◌, ◌⊎◌, ℕ, ◌^◌, ◌<◌, ◌≤◌, List, [], length}
 use Rattle.std.specs.List.{AllByRecursion}
 use Rattle.ns_tree.specs.declared.inode.Noted.{Noted}
 use Rattle.ns_tree.specs.Space.{AreRising}
@@ -7,10 +7,6 @@ use Rattle.ns_tree.specs.Places.{IsTree}
 use Rattle.ns_image.specs.declared.answer.ReadImage.{ReadImage}
 use Rattle.ns_image.specs.declared.answer.ReadImage.TheVariants.{Image, BadImage}
 use Rattle.ns_image.specs.Reading.{Told}
-
--- each item is a byte
-abbrev pub IsBytes : List ℕ → Type 0
-IsBytes bytes = (i : ℕ) → slice_index bytes i < 256
 
 -- a call as a client sends it: an id of 16 bytes, and a number of 32 bits
 pub record IsSent (noted : Noted) : Type 0 where

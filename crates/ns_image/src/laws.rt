@@ -1,11 +1,12 @@
 //! Laws of images.
 ghost use Rattle.std.specs.Prelude.{◌≡◌, ◌^◌, ◌≤◌, List, ℕ, Ok};
+ghost use Rattle.base_words.specs.Fields.{IsBytes};
 ghost use Rattle.ns_tree.specs.Space.{Space};
 ghost use Rattle.ns_tree.specs.Places.{IsTree};
 ghost use Rattle.ns_image.specs.Layouts.{image_bytes};
 ghost use Rattle.ns_image.specs.Reading.{told};
 ghost use Rattle.ns_image.specs.Reading.{Told};
-ghost use Rattle.ns_image.specs.Laws.{IsImage, IsBytes};
+ghost use Rattle.ns_image.specs.Laws.{IsImage};
 
 /// What has an image in a layout is read back from it.
 pub fn images_are_read_back()

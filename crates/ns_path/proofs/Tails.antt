@@ -1,6 +1,7 @@
 -- Paths at or under another path: that path's text, and a tail.
 use Rattle.std.proofs.Common.{◌≡◌, ℕ, ◌<◌, ◌+◌, List, [], ◌∷◌, ◌++◌, length, drop, Bool, true, false, cond, refl, sym, ap, ◌∙◌, append_assoc, append-nil, length-append, arith, ◌==◌, ◌&&◌}
 use Rattle.std.specs.Prelude.{◌||◌}
+use Rattle.std.proofs.Math.Bool.{and_assoc}
 use Rattle.std.proofs.lemmas.Bool.Decides.{nat_tests}
 use Rattle.ns_path.specs.Path.{same_text, walk_cmp, begins_with, stem, path_of_stem, is_under, is_at_or_under, has_slash, before_last_slash}
 use Rattle.ns_path.specs.Path.{parent_of, is_component, are_components, is_path, is_root, moved_path}
@@ -147,27 +148,19 @@ components_split : (c p u : List ℕ) → are_components c (p ++ 47 ∷ u) ≡ (
 components_split c [] u = refl
 components_split c (b ∷ p) u = by (b == 47) (components_split [] p u) (components_split (c ++ b ∷ []) p u)
   where
-    and_assoc : (x y z : Bool) → (x && (y && z)) ≡ ((x && y) && z)
-    and_assoc true y z = refl
-    and_assoc false y z = refl
-
     by : (z : Bool) → are_components [] (p ++ 47 ∷ u) ≡ (are_components [] p && are_components [] u)
         → are_components (c ++ b ∷ []) (p ++ 47 ∷ u) ≡ (are_components (c ++ b ∷ []) p && are_components [] u)
         → cond z (is_component c && are_components [] (p ++ 47 ∷ u)) (are_components (c ++ b ∷ []) (p ++ 47 ∷ u)) ≡
         (cond z (is_component c && are_components [] p) (are_components (c ++ b ∷ []) p) && are_components [] u)
-    by true e f = ap (λ (x : Bool). is_component c && x) e ∙ and_assoc (is_component c) (are_components [] p) (are_components [] u)
+    by true e f = ap (λ (x : Bool). is_component c && x) e ∙ sym (and_assoc (is_component c) (are_components [] p) (are_components [] u))
     by false e f = f
 
 pub path_split : (p u : List ℕ) → Below p → is_path (p ++ 47 ∷ u) ≡ (is_path p && are_components [] u)
 path_split p u b =
     ap (λ (l : List ℕ). is_path (l ++ 47 ∷ u)) b.is
     ∙ ap (λ (x : Bool). (b.first == 47) && x) (components_split [] (b.second ∷ b.rest) u)
-    ∙ and_assoc (b.first == 47) (are_components [] (b.second ∷ b.rest)) (are_components [] u)
+    ∙ sym (and_assoc (b.first == 47) (are_components [] (b.second ∷ b.rest)) (are_components [] u))
     ∙ sym (ap (λ (l : List ℕ). is_path l && are_components [] u) b.is)
-  where
-    and_assoc : (x y z : Bool) → (x && (y && z)) ≡ ((x && y) && z)
-    and_assoc true y z = refl
-    and_assoc false y z = refl
 
 pub path_tail : (src dst rest : List ℕ) → Below src → Below dst → is_tail rest ≡ true → is_path dst ≡ true → is_path (src ++ rest) ≡ true → is_path (dst ++ rest) ≡ true
 path_tail src dst [] b d g path e = ap is_path (append-nil dst) ∙ path

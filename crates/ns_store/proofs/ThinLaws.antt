@@ -1,6 +1,6 @@
 -- How images are removed one after the other, and that a folder has one list of them.
-use Rattle.std.proofs.Common.{inl, inr, ⊎_elim, ◌⊎◌, ◌≡◌, ◌≢◌, ◌↔◌, ℕ, zero, suc, ◌<◌, ◌≤◌, List, [], ◌∷◌, ◌++◌, ap, sym, ◌∙◌, refl, subst, arith, take}
-use Rattle.std.specs.Prelude.{Contains, None, Result, OnOk, IsErrOf, drop}
+use Rattle.std.proofs.Common.{inl, inr, ⊎_elim, ◌⊎◌, ◌≡◌, ◌≢◌, ◌↔◌, ℕ, zero, suc, ◌<◌, List, [], ◌∷◌, ◌++◌, ap, sym, ◌∙◌, refl, subst, arith, take}
+use Rattle.std.specs.Prelude.{Contains, None, Result, IsOk, OnOk, drop}
 use Rattle.std.proofs.lemmas.Result.{on_ok_weaker}
 use Rattle.std.specs.Ordering.{nat_cmp}
 use Rattle.std.specs.declared.cmp.Ordering.TheVariants.{Less}
@@ -15,14 +15,13 @@ use Rattle.base_disk.specs.View.{View, IsSound}
 use Rattle.base_disk.specs.Calls.{HasCause, Keeps}
 use Rattle.base_disk.specs.Runs.{Quiet, quiet_start}
 use Rattle.base_disk.specs.declared.disk.DiskFail.{DiskFail}
-use Rattle.base_disk.specs.declared.disk.DiskFail.TheVariants.{Failed}
 use Rattle.ns_store.specs.Names.{Itself, Digest, name_of}
 use Rattle.ns_store.specs.Images.{ListsImages}
 use Rattle.ns_store.specs.Lists.{AllSmall, older_than}
 use Rattle.ns_store.specs.Saves.{KeepsImage, Removes, Thins, IsRemoved, AreRemoved, Retains}
 use Rattle.ns_store.proofs.NameLaws.{parts_apart, same_txid}
 use Rattle.ns_store.proofs.Runs.{quiet_then, keeps_then}
-use Rattle.base_disk.proofs.Rises.{rose_since}
+use Rattle.base_disk.proofs.Causes.{none_at_ok}
 
 -- ## One list
 less_lt : (x y : ℕ) → nat_cmp x y ≡ Less → x < y
@@ -133,9 +132,8 @@ pub record IsThinning (told tells : Type 0) (v0 v : View) (txids done : List ℕ
   pub tells_on : told ↔ tells
   pub quiet : told → Quiet (Thins txids) v0 v
   pub removed : told → AreRemoved done v.seen
-  pub later : f0 ≤ f
+  pub same : f ≡ f0
   pub steady : was_steady → is_steady
-  pub same : was_steady → f ≡ f0
 
 module _ (told : Type 0) (v0 : View) (sound0 : told → IsSound v0) (txids : List ℕ) (small : AllSmall txids) (f0 : ℕ) (was_steady : Type 0) where
   pub begun : IsThinning told told v0 v0 txids [] f0 f0 was_steady was_steady
@@ -143,9 +141,8 @@ module _ (told : Type 0) (v0 : View) (sound0 : told → IsSound v0) (txids : Lis
     tells_on = (λ t. t, λ t. t);
     quiet = λ t. thin_start txids small v0 (sound0 t);
     removed = λ t u among. let lt : among.0 < 0 = among.1 in absurd (omega (arith, lt));
-    later = omega arith;
+    same = refl;
     steady = λ s. s;
-    same = λ s. refl;
   }
 
   module _ (tells : Type 0) (v : View) (sound : tells → IsSound v) (done : List ℕ) (f : ℕ) (is_steady : Type 0) (so_far : IsThinning told tells v0 v txids done f0 f was_steady is_steady)
@@ -157,34 +154,13 @@ module _ (told : Type 0) (v0 : View) (sound0 : told → IsSound v0) (txids : Lis
     pub still_tells : told ↔ tells1
     still_tells = (λ h. on.0 (so_far.tells_on.0 h), λ h. so_far.tells_on.1 (on.1 h))
 
-    pub one_more : (next : List ℕ) → next ≡ done ++ t ∷ [] → ((u : ℕ) → Contains done u → Contains txids u) → (tells → IsRemoved t v1.seen)
+    pub one_more : IsOk r → (next : List ℕ) → next ≡ done ++ t ∷ [] → ((u : ℕ) → Contains done u → Contains txids u) → (tells → IsRemoved t v1.seen)
         → IsThinning told tells1 v0 v1 txids next f0 f1 was_steady steady1
-    one_more next is within gone = record {
+    one_more ok next is within gone = record {
       tells_on = still_tells;
       quiet = still_quiet;
       removed = λ h. let here = so_far.tells_on.0 h in subst (λ (l : List ℕ). AreRemoved l v1.seen) (sym is)
           (removed_more txids small done t v.seen v1.seen within has (so_far.removed h) (quiet here).seen (gone here));
-      later = omega (arith, so_far.later, cause.later);
+      same = none_at_ok f f1 is_steady steady1 r cause ok ∙ so_far.same;
       steady = λ s. cause.steady (so_far.steady s);
-      same = λ s. cause.same (so_far.steady s) ∙ so_far.same s;
     }
-
-    pub given_up_cause : {S : Type 0} (outer : Result S DiskFail) → (IsErrOf outer Failed → IsErrOf r Failed) → HasCause f0 f1 was_steady steady1 outer
-    given_up_cause outer carry = record {
-      later = omega (arith, so_far.later, cause.later);
-      failed = λ failed. rose_since f0 f f1 so_far.later (cause.failed (carry failed));
-      steady = λ s. cause.steady (so_far.steady s);
-      no_fault = λ s failed. cause.no_fault (so_far.steady s) (carry failed);
-      same = λ s. cause.same (so_far.steady s) ∙ so_far.same s;
-    }
-
-  pub going_cause : {S : Type 0} (tells : Type 0) (v : View) (done : List ℕ) (f : ℕ) (is_steady : Type 0)
-      → IsThinning told tells v0 v txids done f0 f was_steady is_steady → (r : Result S DiskFail) → (IsErrOf r Failed → ⊥)
-      → HasCause f0 f was_steady is_steady r
-  going_cause tells v done f is_steady so_far r fine = record {
-    later = so_far.later;
-    failed = λ failed. absurd (fine failed);
-    steady = so_far.steady;
-    no_fault = λ s failed. fine failed;
-    same = so_far.same;
-  }

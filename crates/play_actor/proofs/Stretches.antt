@@ -1,42 +1,38 @@
 -- An actor over its seats: along its calls and its actions it is led as its actions say, whatever
 -- it hears.
-use Rattle.std.proofs.Common.{◌≡◌, ℕ, ◌<◌, List, [], ◌∷◌, ◌++◌, map, Bool, true, false, refl, sym, ap, ◌∙◌, subst, Option, Some, None, codes, append_assoc, append-nil}
+use Rattle.std.proofs.Common.{◌≡◌, ℕ, List, [], ◌∷◌, ◌++◌, map, Bool, true, false, refl, sym, ap, ◌∙◌, subst, Option, Some, None, append_assoc, append-nil}
 use Rattle.std.specs.Prelude.{Result, Ok, Err, OnOk}
 use Rattle.journal_history.specs.declared.mark.Mark.{Mark}
 use Rattle.journal_core.specs.declared.request.Request.{Request}
 use Rattle.writer_core.specs.declared.task.Task.{Task}
-use Rattle.writer_core.specs.declared.task.Begun.{Begun}
 use Rattle.writer_core.specs.declared.task.Begun.TheVariants as begun
 use Rattle.writer_core.specs.declared.turn.Turn.{Turn}
 use Rattle.writer_core.specs.declared.turn.Turn.TheVariants as turn
 use Rattle.writer_core.specs.Views.{WriterView}
-use Rattle.writer_core.specs.Left.{calls_left}
 use Rattle.writer_core.specs.Writer.{next_call, writer_begun, writer_heard, is_under_way}
-use Rattle.writer_core.proofs.LiveLaws.{begun_live, heard_live}
-use Rattle.writer_core.proofs.LeftLaws.{live_run_out}
+use Rattle.writer_core.proofs.LiveLaws.{heard_live}
 use Rattle.journal_history.specs.declared.record.Record.{Record}
 use Rattle.journal_history.specs.declared.record.Record.TheVariants.{Call, Late, Outcome}
 use Rattle.journal_history.specs.declared.record.Told.{Told}
 use Rattle.mesh.specs.Makers.{heard_of}
-use Rattle.run_safety.proofs.WriterRange.{heard_sized, begun_sized}
+use Rattle.run_safety.proofs.WriterRange.{heard_sized}
 use Rattle.play_names.specs.Holding.{Holding}
-use Rattle.play_calls.specs.Logs.{LogView, with_line, lose_call, copy_call, earlier_call as earlier_in, mark_kind, IsCalled, IsCopied}
-use Rattle.play_model.specs.Lines.{Does, DoDrop, DoMute, DoLate}
-use Rattle.play_names.specs.Results.{results_of, late_none, name_of, word}
-use Rattle.play_names.specs.ResultLists.{edits_of, times, texts_of, AreFew}
+use Rattle.play_calls.specs.Logs.{LogView, lose_call, copy_call, earlier_call as earlier_in, mark_kind, IsCopied}
+use Rattle.play_model.specs.Lines.{DoDrop, DoMute, DoLate}
+use Rattle.play_names.specs.Results.{late_none}
+use Rattle.play_names.specs.ResultLists.{edits_of, AreFew}
 use Rattle.play_model.specs.Actor.{Fits, hand_action, turn_taken}
-use Rattle.play_model.specs.KeptActor.{KeptActor, as_actor, resting, hears, say_texts, doing_after}
+use Rattle.play_model.specs.KeptActor.{KeptActor, as_actor, resting, hears, say_texts}
 use Rattle.play_model.specs.Ready.{IsReady}
-use Rattle.play_model.specs.Went.{refused_results}
-use Rattle.play_model.specs.Actions.{kept_of, LedTo, IsOneCall, IsNoTail, GoesFar, IsUnbroken, IsIdleActor, TakesAction, mark_action}
+use Rattle.play_model.specs.Actions.{kept_of, LedTo, IsNoTail, GoesFar, IsUnbroken, IsIdleActor, TakesAction, mark_action}
+use Rattle.play_actor.specs.Rounds.{IsSaidOf}
 use Rattle.play_model.proofs.LedLaws.{led_same, led_on, led_one}
-use Rattle.play_model.proofs.KeptActor.{idle_no_tail, wants_call, wants_said, goes_call, goes_said, raw_turn, handed_refused, handed_going}
+use Rattle.play_model.proofs.KeptActor.{idle_no_tail, wants_call, wants_said, goes_call, goes_said}
 use Rattle.play_model.proofs.KeptActor.{handed_drop, handed_mute, handed_none, handed_late, wants_copy, goes_copy, copying as with_copy}
-use Rattle.play_model.proofs.WriterTurn.{call_under, going_is, refused_writer, begun_under, not_going}
-use Rattle.play_names.proofs.ResultLaws.{results_are, inactive_are, too_long_are, few_is}
+use Rattle.play_model.proofs.WriterTurn.{call_under, going_is}
+use Rattle.play_names.proofs.ResultLaws.{few_is}
 use Rattle.play_model.proofs.TurnsFit.{heard_fits, begun_few}
 use Rattle.play_model.proofs.TurnsTell.{turn_tells}
-use Rattle.mesh.proofs.Chores.{at_rest}
 
 -- ## A call
 call_led : (t : Task) (k : KeptActor) (node : ℕ) (r : Request) (told : Told) → IsNoTail k.holds → next_call k.writer ≡ Some (node, r)
@@ -48,7 +44,7 @@ pub goes_begin : (n : ℕ) (k : KeptActor) → IsReady n k.writer → is_under_w
 unfolding turn_taken
 goes_begin n k ready under = record { ready = ready; holds = refl; leads = λ t h. led_same _ _ refl; tells = under; fits = tt }
 
-heard_more : (n : ℕ) (k0 k : KeptActor) (u : Turn) (node : ℕ) (r : Request) (told : Told) → GoesFar n k0 k u → next_call k.writer ≡ Some (node, r)
+pub heard_more : (n : ℕ) (k0 k : KeptActor) (u : Turn) (node : ℕ) (r : Request) (told : Told) → GoesFar n k0 k u → next_call k.writer ≡ Some (node, r)
     → GoesFar n k0 (hears k node r told) (writer_heard k.writer node (heard_of told)).turn
 unfolding turn_taken
 heard_more n k0 k u node r told g next =
@@ -62,31 +58,6 @@ heard_more n k0 k u node r told g next =
           (call_led t k node r told (subst (λ (o : Option Holding). IsNoTail o) (sym g.holds) h) next);
       tells = turn_tells k.writer node (heard_of told) under;
       fits = heard_fits k.writer node (heard_of told);
-    }
-
-pub goes_more : (n : ℕ) (k0 k new : KeptActor) (u v : Turn) → GoesFar n k0 k u → IsOneCall k new v → GoesFar n k0 new v
-goes_more n k0 k new u v g c =
-    subst (λ x. GoesFar n k0 x v) (sym c.heard) (subst (λ x. GoesFar n k0 (hears k c.node c.request c.told) x) (sym c.turn_is) (heard_more n k0 k u c.node c.request c.told g c.next))
-
-pub goes_end : (n : ℕ) (k0 k new : KeptActor) (u : Turn) → GoesFar n k0 k u → new ≡ k → GoesFar n k0 new u
-goes_end n k0 k new u g e = subst (λ x. GoesFar n k0 x u) (sym e) g
-
-pub fewer_left : (n : ℕ) (k new : KeptActor) (u : Turn) → IsReady n k.writer → IsOneCall k new u → calls_left new.writer < calls_left k.writer
-fewer_left n k new u ready c =
-    subst (λ (x : KeptActor). calls_left x.writer < calls_left k.writer) (sym c.heard) (live_run_out k.writer c.node c.request (heard_of c.told) ready.live c.next)
-
--- what the program's call is
-pub one_call : (w v : WriterView) (o : Option Holding) (old new : LogView) (node : ℕ) (r : Request) (turn : Turn) (heard : _) → next_call w ≡ Some (node, r) → IsCalled old node r heard new
-    → writer_heard w node heard ≡ record { writer = v; turn = turn } → IsOneCall (kept_of w o old) (kept_of v o new) turn
-one_call w v o old new node r turn heard next called h =
-    let e : writer_heard w node (heard_of called.told) ≡ record { writer = v; turn = turn } = ap (writer_heard w node) (sym called.hears) ∙ h in
-    record {
-      node = node;
-      request = r;
-      told = called.told;
-      next = next;
-      heard = ap (λ l. kept_of v o l) called.listed ∙ ap (λ x. kept_of x o (with_line old (Call node r called.told))) (sym (ap (λ j. j.writer) e));
-      turn_is = sym (ap (λ j. j.turn) e);
     }
 
 -- ## Results
@@ -112,55 +83,9 @@ pub said_led : (old new : LogView) (texts : List (List ℕ)) → new.past ≡ ol
     → (w : WriterView) (o : Option Holding) → LedTo (as_actor None texts (kept_of w o old)) (resting (kept_of w o new))
 said_led old new texts e f w o = subst (λ x. LedTo (as_actor None texts (kept_of w o old)) (resting x)) (sym (said_is w o old new texts e f)) (results_led (kept_of w o old) texts)
 
--- what listing these results leads to
-abbrev pub IsSaid : LogView → LogView → List (List ℕ) → Type 0
-IsSaid old new texts = (w : WriterView) (o : Option Holding) → LedTo (as_actor None texts (kept_of w o old)) (resting (kept_of w o new))
-
 -- ## Tasks
-pub begun_ready : (n : ℕ) (k : KeptActor) (t : Task) (v : WriterView) → IsIdleActor n k → v ≡ (writer_begun k.writer t).writer → IsReady n v
-begun_ready n k t v h e = subst (λ x. IsReady n x) (sym e) (record { live = begun_live k.writer t h.ready.live; sized = begun_sized n k.writer t h.ready.sized })
-
-pub going_under : (w v : WriterView) (t : Task) → (writer_begun w t).begun ≡ begun.Going → v ≡ (writer_begun w t).writer → is_under_way v.phase ≡ true
-going_under w v t g e = ap (λ (x : WriterView). is_under_way x.phase) e ∙ begun_under w t g
-
 pub few_edits : (w : WriterView) (t : Task) → (writer_begun w t).begun ≡ begun.Going → AreFew (edits_of t)
 few_edits w t e = few_is t (begun_few w t e)
-
--- a task that is refused
-pub takes_refused : (n : ℕ) (w v : WriterView) (o : Option Holding) (old new : LogView) (t : Task) (texts : List (List ℕ)) → IsIdleActor n (kept_of w o old) → IsUnbroken o
-    → refused_results t (writer_begun w t).begun ≡ Some texts → v ≡ (writer_begun w t).writer → IsSaid old new texts → TakesAction n (Does t) (kept_of w o old) (kept_of v o new)
-takes_refused n w v o old new t texts idle free e is said =
-    let k : KeptActor = kept_of w o old in
-    let same : v ≡ w = is ∙ refused_writer w t texts e in
-    subst (λ (x : WriterView). TakesAction n (Does t) k (kept_of x o new)) (sym same) (record {
-      idle = record { some = idle.some; ready = idle.ready; rests = idle.rests; holds = idle.holds };
-      leads = led_on _ (as_actor None texts k) _ (led_same _ _ (handed_refused k t texts (idle_no_tail o idle.holds) idle.rests free e)) (said w o);
-    })
-
--- a task that begins, up to its last call
-pub task_went : (n : ℕ) (w v : WriterView) (o : Option Holding) (old : LogView) (went : KeptActor) (t : Task) (u : Turn) → IsIdleActor n (kept_of w o old) → IsUnbroken o
-    → (writer_begun w t).begun ≡ begun.Going → v ≡ (writer_begun w t).writer → GoesFar n (kept_of v o old) went u
-    → LedTo (hand_action (Does t) (resting (kept_of w o old))) (turn_taken u (Some t) (as_actor (Some t) [] went))
-task_went n w v o old went t u idle free e is g =
-    let k : KeptActor = kept_of w o old in
-    led_on _ (as_actor (Some t) [] (kept_of v o old)) _
-    (led_same _ _ (handed_going k t (idle_no_tail o idle.holds) idle.rests free e ∙ ap (λ (x : WriterView). as_actor (Some t) [] (kept_of x o old)) (sym is)))
-    (g.leads t (idle_no_tail o idle.holds))
-
--- and of an actor without names to its end
-pub takes_going : (n : ℕ) (w v x : WriterView) (old mid new : LogView) (t : Task) (u : Turn) (texts : List (List ℕ)) → IsIdleActor n (kept_of w None old)
-    → (writer_begun w t).begun ≡ begun.Going → v ≡ (writer_begun w t).writer → GoesFar n (kept_of v None old) (kept_of x None mid) u → next_call x ≡ None
-    → texts ≡ texts_of (name_of t) (edits_of t) u x.causes → IsSaid mid new texts → TakesAction n (Does t) (kept_of w None old) (kept_of x None new)
-takes_going n w v x old mid new t u texts idle e is g none are said =
-    let over : doing_after t u ≡ None = not_going u (sym g.tells ∙ at_rest x g.ready.live none) t in
-    let all : results_of t u x.causes ≡ texts = results_are t u x.causes ∙ sym are in
-    let ends : turn_taken u (Some t) (as_actor (Some t) [] (kept_of x None mid)) ≡ as_actor None texts (kept_of x None mid) =
-    raw_turn t x mid u ∙ ap (λ (d : Option Task). as_actor d (results_of t u x.causes) (kept_of x None mid)) over ∙ ap (λ (l : List (List ℕ)). as_actor None l (kept_of x None mid)) all in
-    record {
-      idle = record { some = idle.some; ready = g.ready; rests = none; holds = tt };
-      leads = led_on _ (as_actor None texts (kept_of x None mid)) _
-          (led_on _ _ _ (task_went n w v None old (kept_of x None mid) t u idle refl e is g) (led_same _ _ ends)) (said x None);
-    }
 
 -- ## Marks and copies
 pub takes_mark : (n : ℕ) (w : WriterView) (o : Option Holding) (old new : LogView) (node call : ℕ) (mute : Bool) → IsIdleActor n (kept_of w o old)
@@ -203,7 +128,7 @@ late_made n w o old new node call idle free made = by (earlier_in old node call)
     by (Some r) e h = takes_copy n w o old new node call r idle free e h.1
 
 pub late_none_made : (n : ℕ) (w : WriterView) (o : Option Holding) (old mid new : LogView) (texts : List (List ℕ)) (node call : ℕ) → IsIdleActor n (kept_of w o old) → IsUnbroken o
-    → IsCopied (earlier_in old node call) old node call false mid → texts ≡ late_none ∷ [] → IsSaid mid new texts → TakesAction n (DoLate node call) (kept_of w o old) (kept_of w o new)
+    → IsCopied (earlier_in old node call) old node call false mid → texts ≡ late_none ∷ [] → IsSaidOf mid new texts → TakesAction n (DoLate node call) (kept_of w o old) (kept_of w o new)
 late_none_made n w o old mid new texts node call idle free made are said = by (earlier_in old node call) refl made
   where
     by : (x : Option Request) → earlier_in old node call ≡ x → IsCopied x old node call false mid → TakesAction n (DoLate node call) (kept_of w o old) (kept_of w o new)
@@ -219,30 +144,6 @@ late_none_made n w o old mid new texts node call idle free made are said = by (e
     by (Some r) e h = absurd (cc h.0)
 
 -- ## For the code
-pub no_call : (w v : WriterView) (o : Option Holding) (old new : LogView) → next_call w ≡ None → v ≡ w → new ≡ old → (next_call w ≡ None) × (kept_of v o new ≡ kept_of w o old)
-no_call w v o old new none e f = (none, ap (λ x. kept_of x o new) e ∙ ap (kept_of w o) f)
-
--- a task that the code begins
-pub began_writer : (w v : WriterView) (t : Task) (b : Begun) → writer_begun w t ≡ record { writer = v; begun = b } → v ≡ (writer_begun w t).writer
-began_writer w v t b e = sym (ap (λ x. x.writer) e)
-
-pub began_going : (w v : WriterView) (t : Task) → writer_begun w t ≡ record { writer = v; begun = begun.Going } → None ≡ refused_results t (writer_begun w t).begun
-began_going w v t e = sym (ap (λ x. refused_results t x.begun) e)
-
-pub began_inactive : (w v : WriterView) (t : Task) (texts : List (List ℕ)) → writer_begun w t ≡ record { writer = v; begun = begun.NotActive }
-    → texts ≡ times (edits_of t) (name_of t ++ codes "inactive") → Some texts ≡ refused_results t (writer_begun w t).begun
-began_inactive w v t texts e are = ap (λ (x : List (List ℕ)). Some x) (are ∙ sym (inactive_are t)) ∙ sym (ap (λ x. refused_results t x.begun) e)
-
-pub began_long : (w v : WriterView) (t : Task) (number : ℕ) (texts : List (List ℕ)) → writer_begun w t ≡ record { writer = v; begun = begun.TooLong number }
-    → texts ≡ times (edits_of t) (word (codes "toolong") number) → Some texts ≡ refused_results t (writer_begun w t).begun
-began_long w v t number texts e are = ap (λ (x : List (List ℕ)). Some x) (are ∙ sym (too_long_are t number)) ∙ sym (ap (λ x. refused_results t x.begun) e)
-
 pub on_ok_both : {A E : Type 0} {P Q S : Type 0} (r : Result A E) → (P → Q → S) → OnOk r P → OnOk r Q → OnOk r S
 on_ok_both (Ok a) f h g = f h g
 on_ok_both (Err e) f h g = tt
-
-pub ruleset calls = (one_call, no_call)
-
-pub ruleset stretches = (goes_begin, goes_more, goes_end)
-
-pub ruleset refusals = (began_writer, began_going, began_inactive, began_long)

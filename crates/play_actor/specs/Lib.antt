@@ -1,4 +1,8 @@
-pub mod Holdings
-pub mod Named
+pub mod Nodes
+pub mod Roles
+pub mod Came
+pub mod Entries
+pub mod Rounds
 pub mod Submitting
-pub mod Held
+pub mod Refusals
+pub mod Kinds

@@ -1,25 +1,24 @@
-//! What every actor does over its seats: its writer's tasks call by call, its results, its losses
-//! and copies.
-ghost use Rattle.std.specs.Prelude.{◌≡◌, ◌≤◌, ◌++◌, map, true, OnOk, IfOk, None, Option, option_map};
+//! What every actor does over its seats: its results, its losses and copies; and the tasks of one
+//! without names.
+ghost use Rattle.std.specs.Prelude.{◌≡◌, ◌≢◌, ◌≤◌, ◌++◌, map, OnOk, IfOk, None, Option};
 ghost use Rattle.journal_core.specs.Limits.{max_number};
 ghost use Rattle.writer_core.specs.Views.{WriterView};
-ghost use Rattle.writer_core.specs.Writer.{HasBody, writer_begun, next_call, is_under_way};
+ghost use Rattle.writer_core.specs.Writer.{HasBody};
 ghost use Rattle.journal_history.specs.declared.record.Record.TheVariants.{Outcome};
-ghost use Rattle.run_safety.specs.Sized.{Sized};
 ghost use Rattle.play_names.specs.Holding.{Holding};
 ghost use Rattle.play_model.specs.Lines.{Does, DoLate};
 ghost use Rattle.play_names.specs.Results.{name_of};
 ghost use Rattle.play_names.specs.ResultLists.{edits_of};
 ghost use Rattle.play_model.specs.KeptActor.{as_actor, resting};
-ghost use Rattle.play_model.specs.Ready.{IsReady};
-ghost use Rattle.play_model.specs.Went.{HasGone, refused_results};
-ghost use Rattle.play_model.specs.Actions.{kept_of, LedTo, IsNext, GoesFar, IsIdleActor, IsUnbroken, TakesAction, mark_action};
+ghost use Rattle.play_actor.specs.Came.{texts_came, CameFits};
+ghost use Rattle.play_model.specs.Actions.{kept_of, LedTo, IsIdleActor, IsUnbroken, TakesAction, mark_action};
 
 use journal_core::{Bytes, OutOfMemory};
 use play_calls::Seats;
 use play_names::{inactive_texts, no_call, results, too_long};
-use std::alloc::Global;
-use writer_core::{Begun, Task, Turn, Writer};
+use std::alloc::{AllocError, Global};
+use writer_calls::{Came, QuorumWriter};
+use writer_core::{Task, Turn};
 
 /// What the results of a task begin with.
 #[tactic(auto, unfolding(play_names::specs::Results::name_of))]
@@ -45,71 +44,6 @@ fn edits_of(task: &Task) -> Option<usize>
     }
 }
 
-/// Begins a task of the writer, or gives the results of its refusal.
-pub fn begin(
-    alloc: Global,
-    writer: &mut Writer,
-    task: Task,
-) -> Result<Option<Vec<Bytes>>, OutOfMemory>
-    requires { HasBody task }
-    ensures begun { OnOk result (writer.new.view ≡ (writer_begun writer.old.view task).writer) }
-    ensures refused { IfOk result (λ texts. option_map (λ list. list.items) texts ≡ refused_results task (writer_begun writer.old.view task).begun) }
-{
-    let name = name_of(&task);
-    let edits = edits_of(&task);
-    match writer.begin(task) {
-        Begun::Going => Ok(None),
-        Begun::NotActive => {
-            let texts = inactive_texts(alloc, name, edits)?;
-            Ok(Some(texts))
-        }
-        Begun::TooLong { number } => {
-            let texts = too_long(alloc, edits, number)?;
-            Ok(Some(texts))
-        }
-    }
-}
-
-/// Makes the writer's next call, if there is one, and hears it.
-#[tactic(auto, using(crate::proofs::Stretches::calls))]
-fn call<S: Seats>(
-    alloc: Global,
-    writer: &mut Writer,
-    seats: &mut S,
-) -> Result<Option<Turn>, OutOfMemory>
-    requires { Sized (S.log seats.old).nodes writer.old.view }
-    ensures next { IfOk result (λ turn. (held : Option Holding) → IsNext (kept_of writer.old.view held (S.log seats.old)) (kept_of writer.new.view held (S.log seats.new)) turn) }
-    ensures later { OnOk result (S.later seats.old seats.new) }
-{
-    let Some((node, request)) = writer.next(alloc)? else {
-        return Ok(None);
-    };
-    let heard = seats.call_node(alloc, node, request)?;
-    let turn = writer.hear(node, heard);
-    Ok(Some(turn))
-}
-
-/// Makes the calls of the writer's task, to its end; the turn of the last one.
-#[tactic(auto, using(crate::proofs::Stretches::stretches))]
-pub fn finish<S: Seats>(
-    alloc: Global,
-    writer: &mut Writer,
-    seats: &mut S,
-) -> Result<Turn, OutOfMemory>
-    requires ready { IsReady (S.log seats.old).nodes writer.old.view }
-    requires under_way { is_under_way writer.old.view.phase ≡ true }
-    ensures went { IfOk result (λ turn. (held : Option Holding) → GoesFar (S.log seats.old).nodes (kept_of writer.old.view held (S.log seats.old)) (kept_of writer.new.view held (S.log seats.new)) turn) }
-    ensures gone { IfOk result (λ turn. HasGone writer.old.view writer.new.view turn) }
-    ensures ended { OnOk result (next_call writer.new.view ≡ None) }
-    ensures later { OnOk result (S.later seats.old seats.new) }
-{
-    let mut turn = Turn::Going;
-    while let Some(heard) = call(alloc, writer, seats)? {
-        turn = heard;
-    }
-    Ok(turn)
-}
-
 /// Lists texts.
 fn list_all<S: Seats>(seats: &mut S, texts: Vec<Bytes>) -> Result<(), OutOfMemory>
     ensures past { OnOk result ((S.log seats.new).past ≡ (S.log seats.old).past ++ map (λ text. Outcome text) texts.items) }
@@ -131,25 +65,43 @@ pub fn say_all<S: Seats>(seats: &mut S, texts: Vec<Bytes>) -> Result<(), OutOfMe
     list_all(seats, texts)
 }
 
+/// The results of a task with this name, by what came of it.
+fn came_texts(
+    alloc: Global,
+    name: &[u8],
+    edits: Option<usize>,
+    came: Came,
+) -> Result<Vec<Bytes>, OutOfMemory>
+    requires { CameFits edits came }
+    ensures texts { IfOk result (λ texts. texts.items ≡ texts_came name.now edits came) }
+    ensures memory { OnOk result (came ≢ Came.OutOfMemory) }
+{
+    match came {
+        Came::NotActive => inactive_texts(alloc, name, edits),
+        Came::TooLong { number } => too_long(alloc, edits, number),
+        Came::Done(outcome) => results(alloc, name, edits, Turn::Done(outcome), &[]),
+        Came::Aborted(causes) => results(alloc, name, edits, Turn::Aborted, causes.as_slice()),
+        Came::EpochLimit { told } => results(alloc, name, edits, Turn::EpochLimit { told }, &[]),
+        Came::OutOfMemory => Err(AllocError),
+    }
+}
+
 /// A task of an actor without names: its calls, and its results.
 pub fn take_task<S: Seats>(
     alloc: Global,
-    writer: &mut Writer,
+    writer: &mut QuorumWriter,
     seats: &mut S,
     task: Task,
 ) -> Result<(), OutOfMemory>
-    requires idle { IsIdleActor (S.log seats.old).nodes (kept_of writer.old.view None (S.log seats.old)) }
+    requires idle { IsIdleActor (S.log seats.old).nodes (kept_of writer.old None (S.log seats.old)) }
     requires body { HasBody task }
-    ensures takes { OnOk result (TakesAction (S.log seats.old).nodes (Does task) (kept_of writer.old.view None (S.log seats.old)) (kept_of writer.new.view None (S.log seats.new))) }
+    ensures takes { OnOk result (TakesAction (S.log seats.old).nodes (Does task) (kept_of writer.old None (S.log seats.old)) (kept_of writer.new None (S.log seats.new))) }
     ensures later { OnOk result (S.later seats.old seats.new) }
 {
     let name = name_of(&task);
     let edits = edits_of(&task);
-    if let Some(refused) = begin(alloc, writer, task)? {
-        return say_all(seats, refused);
-    }
-    let turn = finish(alloc, writer, seats)?;
-    let texts = results(alloc, name, edits, turn, writer.causes())?;
+    let came = writer.run(alloc, seats, task);
+    let texts = came_texts(alloc, name, edits, came)?;
     say_all(seats, texts)
 }
 

@@ -3,17 +3,16 @@
 #![tactic(auto)]
 
 mod actions;
-mod held;
-mod holding;
-mod named_tasks;
+mod name_node;
+mod named_lines;
+mod role;
+mod rounds;
 mod script_actor;
-mod segment_task;
 mod standby_actions;
 mod submissions;
 mod submitted;
-mod tailing;
-mod trims;
+mod takeovers;
+mod unmoved;
 
-pub use actions::{begin, finish, say_all, take_late, take_mark, take_task};
-pub use holding::NameHolding;
+pub use actions::{say_all, take_late, take_mark, take_task};
 pub use script_actor::ScriptActor;

@@ -3,3 +3,4 @@ pub mod IndexLaws
 pub mod LogLaws
 pub mod Fitting
 pub mod ToldLaws
+pub mod CallLists

@@ -1,3 +1,4 @@
 pub mod Deliveries
 pub mod Indexes
 pub mod Logs
+pub mod Made

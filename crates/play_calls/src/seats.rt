@@ -1,40 +1,22 @@
 //! The seats of a caller.
 ghost use Rattle.std.specs.Prelude.{◌≡◌, ◌≤◌, true, OnOk, OnErr, IfOk, IsSome};
 ghost use Rattle.journal_core.specs.Limits.{max_number};
-ghost use Rattle.journal_core.specs.Peers.{FitsHeard};
 ghost use Rattle.journal_history.specs.declared.record.Record.TheVariants.{Outcome};
-ghost use Rattle.play_calls.specs.Logs.{LogView, with_line, lose_call, earlier_call, mark_kind, IsCalled, IsCopied};
+ghost use Rattle.play_calls.specs.Logs.{LogView, with_line, lose_call, earlier_call, mark_kind, calls_in, IsCopied};
+ghost use Rattle.play_calls.specs.Made.{MakesCalls};
 
-use journal_core::{Bytes, Heard, OutOfMemory, SharedRequest};
+use journal_core::{Bytes, OutOfMemory, Peers};
 use std::alloc::Global;
 
-/// A caller's seats, one at each node: its calls go through them, lost as its marks say, and are
-/// listed with what was told of them. Nodes are numbered from 1. Lack of memory ends whatever is
-/// under way.
-pub trait Seats {
+/// A caller's seats, one at each node: the nodes as peers of which each call is lost as the
+/// caller's marks say, and listed with what was told of it. Lack of memory ends whatever is under
+/// way.
+pub trait Seats: Peers {
     /// What the caller has listed and marked.
     ghost log: { Self → LogView };
 
     /// The second are the first ones, some lines later.
     ghost later: { Self → Self → Type 0 };
-
-    /// How many nodes there are.
-    fn nodes(&self) -> usize
-        ensures { result ≡ (log self.now).nodes };
-
-    /// A call to a node, lost as the marks say, and listed; what was heard of it, which fits the
-    /// request.
-    fn call_node(
-        &mut self,
-        alloc: Global,
-        node: usize,
-        request: SharedRequest,
-    ) -> Result<Heard, OutOfMemory>
-        requires low { 1 ≤ node }
-        requires high { node ≤ (log self.old).nodes }
-        ensures called { IfOk result (λ heard. IsCalled (log self.old) node request heard (log self.new)) }
-        ensures fits { IfOk result (λ heard. FitsHeard request heard) }
-        ensures later { OnOk result (later self.old self.new) };
 
     /// Marks the `next`-th next call to this node: its reply is lost, or it isn't delivered.
     fn mark(&mut self, node: usize, next: u64, mute: bool) -> Result<(), OutOfMemory>
@@ -65,4 +47,14 @@ pub trait Seats {
     ghost later_on: { (r s t : Self) → later r s → later s t → later r t };
 
     ghost later_nodes: { (r s : Self) → later r s → (log s).nodes ≡ (log r).nodes };
+
+    /// The calls so far are those of the record, and they go to as many nodes.
+    ghost calls_are: { (seats : Self) → Self.calls seats ≡ calls_in (log seats).past };
+
+    ghost nodes_are: { (seats : Self) → Self.nodes seats ≡ (log seats).nodes };
+
+    /// After some calls these alone were listed.
+    ghost called_lists: { (r s : Self) → Self.called r s → MakesCalls (log r) (log s) };
+
+    ghost called_later: { (r s : Self) → Self.called r s → later r s };
 }

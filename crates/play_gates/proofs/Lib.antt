@@ -6,3 +6,4 @@ pub mod NodeLaws
 pub mod SeatLaws
 pub mod GateLaws
 pub mod CloseLaws
+pub mod CallLaws

@@ -15,7 +15,7 @@ ghost use Rattle.play_gates.specs.Seated.{seat_of, AreSeated, AreLater, IsTold, 
 use crate::gate::{Gate, GateSeat};
 use crate::gated_node::NodeGate;
 use crate::pass::Pass;
-use journal_core::{Bytes, Heard, OutOfMemory, SharedRequest};
+use journal_core::{Bytes, Heard, OutOfMemory, Peers, SharedRequest};
 use journal_history::{ActorPlan, NodeAnswer, NodeAsk, RecordList, Told};
 use play_calls::{CallerLog, Delivery, Seats, heard_of, is_done, told_of};
 use std::alloc::{AllocError, Global};
@@ -109,6 +109,7 @@ fn call_through<R: Wait, C: NodeGate>(
     ensures goes { Goes node log.old (own_lines seat.old.caller seat.old.seat.me.0.seen) log.new (own_lines seat.new.caller seat.new.seat.me.0.seen) }
     ensures ok { IfOk result (λ heard. IsCalled log.old node request heard log.new) }
     ensures fits { IfOk result (λ heard. FitsHeard request heard) }
+    ensures unlisted { OnErr result (log.new.past ≡ log.old.past) }
 {
     let delivery = log.delivery(node)?;
     let told = deliver(rt, gate, seat, delivery, &request)?;
@@ -269,19 +270,21 @@ impl<'a, R: Wait, C: NodeGate, G: Pass> GateSeats<'a, R, C, G> {
     }
 }
 
-impl<'a, R: Wait, C: NodeGate, G: Pass> Seats for GateSeats<'a, R, C, G> {
-    ghost use Rattle.play_gates.specs.Seated.{AreLater};
-    ghost use Rattle.play_gates.specs.LaterLaws.{later_same, later_on};
+impl<'a, R: Wait, C: NodeGate, G: Pass> Peers for GateSeats<'a, R, C, G> {
+    ghost use Rattle.play_calls.specs.Logs.{calls_in};
+    ghost use Rattle.play_gates.specs.LaterLaws.{AreCalled, called_none, called_on};
 
-    ghost log = { λ s. s.log };
+    ghost calls = { λ s. calls_in s.log.past };
 
-    ghost later = { λ old new. AreLater old new };
+    ghost nodes = { λ s. s.log.nodes };
+
+    ghost called = { λ old new. AreCalled old new };
 
     fn nodes(&self) -> usize {
         self.log.nodes()
     }
 
-    fn call_node(
+    fn call(
         &mut self,
         alloc: Global,
         node: usize,
@@ -298,6 +301,20 @@ impl<'a, R: Wait, C: NodeGate, G: Pass> Seats for GateSeats<'a, R, C, G> {
             request,
         )
     }
+
+    ghost called_none = { called_none };
+
+    ghost called_on = { called_on };
+}
+
+impl<'a, R: Wait, C: NodeGate, G: Pass> Seats for GateSeats<'a, R, C, G> {
+    ghost use Rattle.std.specs.Prelude.{refl};
+    ghost use Rattle.play_gates.specs.Seated.{AreLater};
+    ghost use Rattle.play_gates.specs.LaterLaws.{later_same, later_on};
+
+    ghost log = { λ s. s.log };
+
+    ghost later = { λ old new. AreLater old new };
 
     #[tactic(auto, using(crate::proofs::SeatLaws::quiets))]
     fn mark(&mut self, node: usize, next: u64, mute: bool) -> Result<(), OutOfMemory> {
@@ -335,4 +352,12 @@ impl<'a, R: Wait, C: NodeGate, G: Pass> Seats for GateSeats<'a, R, C, G> {
     ghost later_on = { later_on };
 
     ghost later_nodes = { λ r s h. h.nodes };
+
+    ghost calls_are = { λ s. refl };
+
+    ghost nodes_are = { λ s. refl };
+
+    ghost called_lists = { λ r s h. h.1 };
+
+    ghost called_later = { λ r s h. h.0 };
 }

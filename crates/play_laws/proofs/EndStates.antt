@@ -1,13 +1,13 @@
 -- The states of nodes at the end of their histories, and their final segments.
-use Rattle.std.proofs.Common.{◌≡◌, ℕ, zero, suc, ◌+◌, ◌<◌, ◌==◌, List, [], ◌∷◌, length, reverse, get_or, Option, Some, true, refl, sym, ap, ◌∙◌, subst, arith}
+use Rattle.std.proofs.Common.{◌≡◌, ℕ, zero, suc, ◌+◌, ◌<◌, ◌==◌, List, [], ◌∷◌, length, reverse, get_or, Some, true, inl, inr, refl, sym, ap, ◌∙◌, subst, arith}
 use Rattle.std.specs.Prelude.{slice_get}
 use Rattle.std.proofs.lemmas.Bool.{cond-true}
 use Rattle.std.proofs.lemmas.List.{append-nil}
 use Rattle.journal_core.specs.Reads.{served}
-use Rattle.journal_core.specs.Segments.{find_segment, AreRising, AreAbove, HasAt}
+use Rattle.journal_core.specs.Segments.{find_segment, AreRising, HasAt}
 use Rattle.journal_core.specs.declared.node_state.NodeState.{NodeState}
 use Rattle.journal_core.specs.declared.segment.Segment.{Segment}
-use Rattle.journal_core.proofs.PlaceLaws.{find_here, find_on}
+use Rattle.journal_core.proofs.Changes.{In, find-in}
 use Rattle.journal_history.specs.Cell.{fresh_cell, cell_after, IsLocalRun}
 use Rattle.journal_history.specs.Entries.{Entry, node_after}
 use Rattle.journal_history.specs.Moving.{moving_of}
@@ -42,17 +42,10 @@ state_in (h ∷ hs) zero s e = let same : (cell_after fresh_cell h).state ≡ s 
 state_in (h ∷ hs) (suc i) s e = let r = state_in hs i s e in (omega (arith, r.0), r.1)
 
 -- ## Lists of segments
-above_at : (a k : ℕ) (gs : List Segment) (g : Segment) → AreAbove a gs → k < length gs → get_or gs k g ≡ g → a < g.start
-above_at a k [] g h l e = absurd (omega arith)
-above_at a zero (x ∷ gs) g h l e = subst (λ (y : Segment). a < y.start) e h.0
-above_at a (suc k) (x ∷ gs) g h l e = above_at a k gs g h.1 (omega arith) e
-
-found_at : (k : ℕ) (gs : List Segment) (g : Segment) → AreRising gs → k < length gs → get_or gs k g ≡ g → find_segment g.start gs ≡ Some g
-found_at k [] g r l e = absurd (omega arith)
-found_at zero (x ∷ gs) g r l e = find_here g.start x gs (ap (λ (y : Segment). y.start) e) ∙ ap (λ (y : Segment). let o : Option Segment = Some y in o) e
-found_at (suc k) (x ∷ gs) g r l e =
-    let low : x.start < g.start = above_at x.start k gs g r.0 (omega arith) e in
-    find_on g.start x gs (λ same. omega (arith, low, same)) ∙ found_at k gs g r.1 (omega arith) e
+in_at : (k : ℕ) (gs : List Segment) (g : Segment) → k < length gs → get_or gs k g ≡ g → In g gs
+in_at k [] g l e = absurd (omega (arith, l))
+in_at zero (x ∷ gs) g l e = inl e
+in_at (suc k) (x ∷ gs) g l e = inr (in_at k gs g (omega (arith, l)) e)
 
 -- ## On the line
 final_body : (s : NodeState) (g : Segment) (k : ℕ) (body : List ℕ) → g.is_final ≡ true → slice_get g.bodies k ≡ Some body → slice_get (served s g) k ≡ Some body
@@ -66,6 +59,6 @@ finals_are_on_line m i txid s g body a e there final has =
     let is : node_after (i + 1) (reverse (epoch_order m)) ≡ s = sym (end_state m (epoch_order m) i lin in_ (a.lists.local i in_)) ∙ at.1 in
     let rising : AreRising s.segments = subst (λ (x : NodeState). AreRising x.segments) is (stored_after (i + 1) (reverse (epoch_order m))).rising in
     let found : find_segment g.start (node_after (i + 1) (reverse (epoch_order m))).segments ≡ Some g =
-    ap (λ (x : NodeState). find_segment g.start x.segments) is ∙ found_at there.0 s.segments g rising there.1 there.2 in
+    ap (λ (x : NodeState). find_segment g.start x.segments) is ∙ find-in g s.segments rising (in_at there.0 s.segments g there.1 there.2) in
     subst (λ (t : ℕ). OnLine m (epoch_order m) t body) (sym has.1)
     (served_on_line m.nodes lin.run.0 (reverse (epoch_order m)) lin.run.1 (i + 1) g has.0 body found (final_body (node_after (i + 1) (reverse (epoch_order m))) g has.0 body final has.2))

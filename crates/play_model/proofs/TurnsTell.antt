@@ -1,4 +1,4 @@
--- A turn tells whether a round is under way, and whether a segment is open.
+-- A turn tells whether a round is under way.
 use Rattle.std.proofs.Common.{◌≡◌, ℕ, ◌+◌, ◌-◌, List, length, Bool, true, false, cond, refl, Option, Some, None, ◌&&◌, nat_lt}
 use Rattle.std.specs.List.{list_any}
 use Rattle.journal_core.specs.Views.{BatchView}
@@ -20,73 +20,72 @@ use Rattle.writer_core.specs.Best.{Best, best_of, greatest_promise, greatest_new
 use Rattle.writer_core.specs.Rounds.{Judgment, keep_going, stops_with, next_serial, begin_propose, after_state, after_propose, begin_recovery}
 use Rattle.writer_core.specs.Rounds.{after_finalize, after_open, after_write, after_round, with_causes, judgment_by, judgment, without_answer_of}
 use Rattle.writer_core.specs.Rounds.{keep_piece, after_edits, after_no_edits, after_fetch, numbers_fit, asks_all, batch_from, left_out_after}
-use Rattle.writer_core.specs.Writer.{is_under_way, is_writing, with_answer, judgment_when, heard_in, heard_at, writer_heard}
+use Rattle.writer_core.specs.Writer.{is_under_way, with_answer, judgment_when, heard_in, heard_at, writer_heard}
 use Rattle.play_model.specs.Ready.{is_going}
-use Rattle.play_model.specs.Went.{opens}
 
 abbrev Tells : Judgment → Type 0
-Tells j = (is_under_way j.writer.phase ≡ is_going j.turn) × (is_writing j.writer.phase ≡ opens j.turn)
+Tells j = is_under_way j.writer.phase ≡ is_going j.turn
 
 state_tells : (told : ℕ) (w : WriterView) → Tells (after_state told w)
 state_tells told w = by_told (nat_lt told max_number)
   where
     by_told : (b : Bool) → Tells (cond b (keep_going (begin_propose told w)) (stops_with (turn.EpochLimit told) w))
-    by_told true = (refl, refl)
-    by_told false = (refl, refl)
+    by_told true = refl
+    by_told false = refl
 
 propose_tells : (o : Option ℕ) (w : WriterView) → Tells (keep_going (after_propose o w))
-propose_tells None w = (refl, refl)
-propose_tells (Some start) w = (refl, refl)
+propose_tells None w = refl
+propose_tells (Some start) w = refl
 
 recovering_tells : (start : ℕ) (o : Option Best) (w : WriterView) → Tells (keep_going (begin_recovery start o w))
-recovering_tells start None w = (refl, refl)
-recovering_tells start (Some best) w = (refl, refl)
+recovering_tells start None w = refl
+recovering_tells start (Some best) w = refl
 
 finalize_tells : (a : Aim) (end : ℕ) (w : WriterView) → Tells (after_finalize a end w)
-finalize_tells aim.Close end w = (refl, refl)
-finalize_tells aim.Takeover end w = (refl, refl)
-finalize_tells aim.Log end w = (refl, refl)
-finalize_tells aim.Roll end w = (refl, refl)
-finalize_tells aim.Purge end w = (refl, refl)
+finalize_tells aim.Close end w = refl
+finalize_tells aim.Takeover end w = refl
+finalize_tells aim.Log end w = refl
+finalize_tells aim.Roll end w = refl
+finalize_tells aim.Purge end w = refl
 
 open_tells : (a : Aim) (w : WriterView) → Tells (after_open a w)
-open_tells aim.Close w = (refl, refl)
-open_tells aim.Takeover w = (refl, refl)
-open_tells aim.Log w = (refl, refl)
-open_tells aim.Roll w = (refl, refl)
-open_tells aim.Purge w = (refl, refl)
+open_tells aim.Close w = refl
+open_tells aim.Takeover w = refl
+open_tells aim.Log w = refl
+open_tells aim.Roll w = refl
+open_tells aim.Purge w = refl
 
 write_tells : (a : Aim) (first last : ℕ) (w : WriterView) → Tells (after_write a first last w)
-write_tells aim.Close first last w = (refl, refl)
-write_tells aim.Takeover first last w = (refl, refl)
-write_tells aim.Log first last w = (refl, refl)
-write_tells aim.Roll first last w = (refl, refl)
-write_tells aim.Purge first last w = (refl, refl)
+write_tells aim.Close first last w = refl
+write_tells aim.Takeover first last w = refl
+write_tells aim.Log first last w = refl
+write_tells aim.Roll first last w = refl
+write_tells aim.Purge first last w = refl
 
 done_tells : (r : Round) (w : WriterView) → Tells (after_round r w)
 done_tells round.State w = state_tells (greatest_promise w.slots) w
 done_tells round.Propose w = propose_tells (greatest_newest w.slots) (next_serial w)
 done_tells (round.Prepare start) w = recovering_tells start (best_of start w.slots) (next_serial w)
 done_tells (round.Fetch node start end bodies) w = recovering_tells start (best_of start w.slots) (next_serial w)
-done_tells (round.Accept batch) w = (refl, refl)
+done_tells (round.Accept batch) w = refl
 done_tells (round.Finalize start end) w = finalize_tells w.aim end (next_serial w)
-done_tells round.Start w = (refl, refl)
+done_tells round.Start w = refl
 done_tells round.Open w = open_tells w.aim (record (next_serial w) { committed = w.start; next = w.start + 1; left = left_out_after round.Open w.slots })
 done_tells (round.Write bodies) w =
     let last : ℕ = w.next + length bodies - 1 in
     write_tells w.aim w.next last (record (next_serial w) { committed = last; next = last + 1; left = left_out_after (round.Write bodies) w.slots })
-done_tells (round.Purge min) w = (refl, refl)
+done_tells (round.Purge min) w = refl
 
 judged_tells : (b : Bool) (r : Round) (w : WriterView) → Tells (judgment_by b r w)
 judged_tells true r w = done_tells r (with_causes r w)
-judged_tells false r w = (refl, refl)
+judged_tells false r w = refl
 
 pieced_tells : (node start end : ℕ) (bodies : List (List ℕ)) (w : WriterView) → Tells (keep_going (keep_piece node start end bodies w))
 pieced_tells node start end bodies w = by_end (nat_lt end (start + length bodies))
   where
     by_end : (b : Bool) → Tells (keep_going (cond b (asks_all (round.Accept (batch_from start bodies)) w) (record w { phase = phase.InRound (round.Fetch node start end bodies) })))
-    by_end true = (refl, refl)
-    by_end false = (refl, refl)
+    by_end true = refl
+    by_end false = refl
 
 out_tells : (node start : ℕ) (heard : Heard) (w : WriterView) → Tells (after_no_edits node start heard w)
 out_tells node start heard w = judged_tells (has_majority (round.Prepare start) (without_answer_of node heard w).slots) (round.Prepare start) (without_answer_of node heard w)
@@ -111,15 +110,9 @@ unfolding after_fetch
 fetched_tells node start end bodies (Answer answer) w = reply_tells node start end bodies answer w
 fetched_tells node start end bodies Silent w = out_tells node start Silent w
 
-pub none_open : (p : Phase) → is_under_way p ≡ true → is_writing p ≡ false
-none_open (phase.InRound r) u = refl
-none_open phase.Idle u = refl
-none_open phase.Writing u = absurd (cc u)
-none_open phase.Stopped u = refl
-
 when_tells : (b : Bool) (r : Round) (w : WriterView) → is_under_way w.phase ≡ true → Tells (judgment_when b r w)
 unfolding judgment
-when_tells true r w u = (u, none_open w.phase u)
+when_tells true r w u = u
 when_tells false r w u = judged_tells (numbers_fit w r && has_majority r w.slots) r w
 
 answer_tells : (r : Round) (w : WriterView) (node : ℕ) (heard : Heard) → is_under_way w.phase ≡ true
@@ -140,29 +133,12 @@ heard_tells (round.Purge min) w node heard u = answer_tells (round.Purge min) w 
 
 at_tells : (x : Phase) (w : WriterView) (node : ℕ) (heard : Heard) → is_under_way w.phase ≡ true → is_under_way x ≡ true → Tells (heard_at x w node heard)
 at_tells (phase.InRound r) w node heard u v = heard_tells r w node heard u
-at_tells phase.Idle w node heard u v = absurd (no v)
-  where
-    no : false ≡ true → ⊥
-    no e = cc
-at_tells phase.Writing w node heard u v = absurd (no v)
-  where
-    no : false ≡ true → ⊥
-    no e = cc
-at_tells phase.Stopped w node heard u v = absurd (no v)
-  where
-    no : false ≡ true → ⊥
-    no e = cc
-
-heard_tells_both : (w : WriterView) (node : ℕ) (heard : Heard) → is_under_way w.phase ≡ true → Tells (writer_heard w node heard)
-unfolding writer_heard
-heard_tells_both w node heard u = at_tells w.phase w node heard u u
+at_tells phase.Idle w node heard u v = absurd (cc v)
+at_tells phase.Writing w node heard u v = absurd (cc v)
+at_tells phase.Stopped w node heard u v = absurd (cc v)
 
 -- after an answer a round is under way exactly where the turn says so
 pub turn_tells : (w : WriterView) (node : ℕ) (heard : Heard) → is_under_way w.phase ≡ true
     → is_under_way (writer_heard w node heard).writer.phase ≡ is_going (writer_heard w node heard).turn
-turn_tells w node heard u = (heard_tells_both w node heard u).0
-
--- and a segment is open
-pub turn_opens : (w : WriterView) (node : ℕ) (heard : Heard) → is_under_way w.phase ≡ true
-    → is_writing (writer_heard w node heard).writer.phase ≡ opens (writer_heard w node heard).turn
-turn_opens w node heard u = (heard_tells_both w node heard u).1
+unfolding writer_heard
+turn_tells w node heard u = at_tells w.phase w node heard u u

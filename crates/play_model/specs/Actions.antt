@@ -1,14 +1,11 @@
 -- An actor over its seats: what is kept of it, and how far its actions lead it, whatever it hears.
 use Rattle.std.specs.Prelude.{◌≡◌, ◌≢◌, ℕ, ◌≤◌, Bool, true, false, List, [], Option, Some, None, is_some}
-use Rattle.journal_core.specs.declared.request.Request.{Request}
 use Rattle.journal_core.specs.Limits.{max_number}
 use Rattle.writer_core.specs.declared.task.Task.{Task}
 use Rattle.writer_core.specs.declared.turn.Turn.{Turn}
 use Rattle.writer_core.specs.Views.{WriterView}
-use Rattle.writer_core.specs.Writer.{new_writer, next_call, writer_heard, is_under_way}
+use Rattle.writer_core.specs.Writer.{new_writer, next_call, is_under_way}
 use Rattle.journal_history.specs.declared.record.Record.{Record}
-use Rattle.journal_history.specs.declared.record.Told.{Told}
-use Rattle.mesh.specs.Makers.{heard_of}
 use Rattle.play_script.specs.declared.script_line.ScriptLine.{ScriptLine}
 use Rattle.play_script.specs.declared.script_line.ScriptLine.TheVariants as line
 use Rattle.play_calls.specs.Logs.{LogView}
@@ -16,7 +13,7 @@ use Rattle.play_model.specs.Lines.{Action, DoDrop, DoMute, Line, Declares, Acts,
 use Rattle.play_names.specs.ResultLists.{TurnFits}
 use Rattle.play_names.specs.Holding.{Holding, Work, Free, Tails, Logs, Broken}
 use Rattle.play_model.specs.Actor.{Actor, hand_action, turn_taken, holding_if, is_broken_holding, IsLed, actor_after}
-use Rattle.play_model.specs.KeptActor.{KeptActor, as_actor, resting, hears}
+use Rattle.play_model.specs.KeptActor.{KeptActor, as_actor, resting}
 use Rattle.play_model.specs.Ready.{IsReady, is_going}
 
 -- what is kept of an actor by its writer, what it holds, and its log
@@ -28,20 +25,6 @@ pub record LedTo (x y : Actor) : Type 0 where
   pub lines : List Record
   pub led : IsLed x lines
   pub after : actor_after x lines ≡ y
-
--- ## One call of the actor's writer
-pub record IsOneCall (old new : KeptActor) (turn : Turn) : Type 0 where
-  pub node : ℕ
-  pub request : Request
-  pub told : Told
-  pub next : next_call old.writer ≡ Some (node, request)
-  pub heard : new ≡ hears old node request told
-  pub turn_is : turn ≡ (writer_heard old.writer node (heard_of told)).turn
-
--- there was none, or it was made
-abbrev pub IsNext : KeptActor → KeptActor → Option Turn → Type 0
-IsNext old new None = (next_call old.writer ≡ None) × (new ≡ old)
-IsNext old new (Some turn) = IsOneCall old new turn
 
 -- ## A task's calls so far; the last one had this turn
 -- all calls are the writer's, while no tail is under way
@@ -84,11 +67,6 @@ pub record IsIdleActor (nodes : ℕ) (k : KeptActor) : Type 0 where
 pub record TakesAction (nodes : ℕ) (d : Action) (old new : KeptActor) : Type 0 where
   pub idle : IsIdleActor nodes new
   pub leads : LedTo (hand_action d (resting old)) (resting new)
-
--- from somewhere in an action to its end
-pub record ComesToRest (nodes : ℕ) (from : Actor) (new : KeptActor) : Type 0 where
-  pub idle : IsIdleActor nodes new
-  pub leads : LedTo from (resting new)
 
 -- no bad entry was met
 abbrev pub IsUnbroken : Option Holding → Type 0

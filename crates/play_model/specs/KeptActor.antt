@@ -34,10 +34,6 @@ new_actor named nodes name = record { name = name; writer = new_writer nodes; ho
 abbrev pub hears : KeptActor → ℕ → Request → Told → KeptActor
 hears a node r t = record a { writer = (writer_heard a.writer node (heard_of t)).writer; past = a.past ++ Call node r t ∷ [] }
 
--- a call that isn't the writer's
-abbrev pub calls : KeptActor → ℕ → Request → Told → KeptActor
-calls a node r t = record a { past = a.past ++ Call node r t ∷ [] }
-
 -- ## Results
 abbrev pub say_texts : KeptActor → List (List ℕ) → KeptActor
 say_texts a texts = record a { past = a.past ++ map (λ text. Outcome text) texts }

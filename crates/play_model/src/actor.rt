@@ -1,5 +1,5 @@
 //! Who does the lines of a script.
-ghost use Rattle.std.specs.Prelude.{◌≡◌, OnOk, IfOk};
+ghost use Rattle.std.specs.Prelude.{◌≡◌, ◌≤◌, OnOk, IfOk};
 ghost use Rattle.play_model.specs.Lines.{line_of};
 ghost use Rattle.play_names.specs.ImageDisks.{HoldsOn};
 ghost use Rattle.play_model.specs.Actor.{last_of, images_of};
@@ -17,8 +17,10 @@ pub trait Actor: Drop {
     /// What contracts see of it: its writer, and what it holds in a script with names.
     ghost seen: { Self → ActorView };
 
-    /// An actor before its first line, with names or without, of that many nodes.
+    /// An actor before its first line, with names or without, of that many nodes, of which there is
+    /// one or more.
     fn new(alloc: Global, named: bool, nodes: usize) -> Result<Self, OutOfMemory>
+        requires { 1 ≤ nodes }
         ensures { IfOk result (λ actor. seen actor ≡ new_actor_view named nodes) };
 
     /// The action of a line, if it is an actor's: its calls, and its results. An actor that met a

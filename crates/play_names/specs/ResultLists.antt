@@ -10,7 +10,7 @@ use Rattle.writer_core.specs.declared.task.Task.{Task}
 use Rattle.writer_core.specs.declared.task.Task.TheVariants as task
 use Rattle.play_names.specs.declared.tailed.Tailed.{Tailed}
 use Rattle.play_names.specs.declared.tailed.Tailed.TheVariants as tailed
-use Rattle.play_names.specs.Results.{word, took, cause_words}
+use Rattle.play_names.specs.Results.{word, cause_words}
 
 -- so many edits from this txid on
 abbrev pub acked_texts : ℕ → ℕ → List (List ℕ)
@@ -79,19 +79,3 @@ tail_texts (tailed.Purged first) = word (codes "tail purged") first ∷ []
 tail_texts (tailed.Behind txid causes) = behind_text (codes "tail behind") txid causes ∷ []
 tail_texts (tailed.BadEntry txid) = []
 tail_texts tailed.OutOfMemory = []
-
--- the tail of a takeover in this epoch, whose first segment begins there
-abbrev pub entry_texts : ℕ → ℕ → Tailed → List (List ℕ)
-entry_texts epoch start (tailed.Caught txid) = word (codes "takeover behind") txid ∷ []
-entry_texts epoch start (tailed.Reached txid) = took epoch start ∷ []
-entry_texts epoch start (tailed.Purged first) = word (codes "takeover purged") first ∷ []
-entry_texts epoch start (tailed.Behind txid causes) = behind_text (codes "takeover behind") txid causes ∷ []
-entry_texts epoch start (tailed.BadEntry txid) = []
-entry_texts epoch start tailed.OutOfMemory = []
-
--- a trim that was a purge up to this txid
-abbrev pub trim_texts : ℕ → Turn → List Cause → List (List ℕ)
-trim_texts min (turn.Done outcome.Purge) causes = word (codes "trim") min ∷ []
-trim_texts min turn.Aborted causes = aborted_text (codes "trim ") causes ∷ []
-trim_texts min (turn.EpochLimit told) causes = word (codes "takeover limit") told ∷ []
-trim_texts min _ causes = []

@@ -9,7 +9,7 @@ mod worked_holdings;
 
 pub use edit_due::EditDue;
 pub use name_results::{
-    entry_results, logged_results, lost_results, one_number, one_word, tail_results, trim_results,
+    behind_text, logged_results, lost_results, one_number, one_word, tail_results,
 };
 pub use tailed::Tailed;
 pub use task_results::{

@@ -2,24 +2,23 @@
 ghost use Rattle.std.specs.Prelude.{◌≡◌, ◌≢◌, ◌<◌, ◌≤◌, [], ◌∷◌, IfOk};
 ghost use Rattle.journal_core.specs.Limits.{max_number};
 ghost use Rattle.play_names.specs.Results.{word, refusal_text, dues_logged, dues_aborted};
-ghost use Rattle.play_names.specs.ResultLists.{behind_text, tail_texts, entry_texts, trim_texts};
+ghost use Rattle.play_names.specs.ResultLists.{behind_text, tail_texts};
 ghost use Rattle.play_names.specs.DueTexts.{due_of, dues_of, logged_text, next_txid, lost_text};
 
 use crate::edit_due::EditDue;
 use crate::tailed::Tailed;
 use crate::task_results::{
-    aborted_text, bytes_of, numbered_text, numbered_text_in, numbered_twice, once, push_causes,
-    text_room,
+    bytes_of, numbered_text, numbered_text_in, once, push_causes, text_room,
 };
 use base_words::put_decimal;
 use journal_core::{Bytes, OutOfMemory};
 use ns_edits::AdmitRefusal;
 use std::alloc::Global;
-use writer_core::{Cause, Outcome, Turn};
+use writer_core::Cause;
 
 /// A word of one byte or more, a number, and the causes, each after a space.
 #[tactic(auto, using(crate::proofs::ResultLaws::some_after))]
-fn behind_text(
+pub fn behind_text(
     alloc: Global,
     name: &[u8],
     txid: u64,
@@ -51,46 +50,6 @@ pub fn tail_results(alloc: Global, tailed: &Tailed) -> Result<Vec<Bytes>, OutOfM
             )
         }
         Tailed::BadEntry { .. } | Tailed::OutOfMemory => Ok(Vec::new(alloc)),
-    }
-}
-
-/// What the tail of a takeover says at its end: of this epoch, whose first segment begins there.
-pub fn entry_results(
-    alloc: Global,
-    epoch: u64,
-    first: u64,
-    tailed: &Tailed,
-) -> Result<Vec<Bytes>, OutOfMemory>
-    ensures { IfOk result (λ texts. texts.items ≡ entry_texts epoch first tailed.now) }
-{
-    match tailed {
-        Tailed::Reached { .. } => once(alloc, numbered_twice(alloc, b"takeover", epoch, first)?),
-        Tailed::Caught { txid } => once(alloc, numbered_text(alloc, b"takeover behind", *txid)?),
-        Tailed::Purged { first } => once(alloc, numbered_text(alloc, b"takeover purged", *first)?),
-        Tailed::Behind { txid, causes } => {
-            once(
-                alloc,
-                behind_text(alloc, b"takeover behind", *txid, causes.as_slice())?,
-            )
-        }
-        Tailed::BadEntry { .. } | Tailed::OutOfMemory => Ok(Vec::new(alloc)),
-    }
-}
-
-/// The results of a trim, which was a purge up to `min`.
-pub fn trim_results(
-    alloc: Global,
-    min: u64,
-    turn: Turn,
-    causes: &[Cause],
-) -> Result<Vec<Bytes>, OutOfMemory>
-    ensures { IfOk result (λ texts. texts.items ≡ trim_texts min turn causes.now) }
-{
-    match turn {
-        Turn::Done(Outcome::Purge) => once(alloc, numbered_text(alloc, b"trim", min)?),
-        Turn::Aborted => once(alloc, aborted_text(alloc, b"trim ", causes)?),
-        Turn::EpochLimit { told } => once(alloc, numbered_text(alloc, b"takeover limit", told)?),
-        _ => Ok(Vec::new(alloc)),
     }
 }
 

@@ -2,6 +2,8 @@
 use Rattle.std.proofs.Common.{◌≡◌, ℕ, List, [], ◌∷◌, ◌++◌, refl, sym, ap, ◌∙◌, subst, append_assoc, append-nil}
 use Rattle.journal_history.specs.declared.record.Record.{Record}
 use Rattle.journal_history.specs.NodeCells.{CellView}
+use Rattle.play_calls.specs.Made.{MakesCalls}
+use Rattle.play_calls.proofs.CallLists.{makes_none, makes_on}
 use Rattle.play_order.specs.PlaySeats.{SeatsView, LineGoes, LinesGo, AreLater}
 
 lines_on : (c : ℕ) (xs ys : List Record) (old mid new : List CellView) → LinesGo c xs old mid → LinesGo c ys mid new → LinesGo c (xs ++ ys) old new
@@ -23,6 +25,17 @@ later_on r s t a b =
       went = lines_on r.caller a.lines b.lines r.cells s.cells t.cells a.went (subst (λ c. LinesGo c b.lines s.cells t.cells) a.caller b.went);
     }
 
+-- ## Calls alone
+abbrev pub AreCalled : SeatsView → SeatsView → Type 0
+AreCalled old new = AreLater old new × MakesCalls old.log new.log
+
+pub called_none : (s : SeatsView) → AreCalled s s
+called_none s = (later_same s, makes_none s.log)
+
+pub called_on : (r s t : SeatsView) → AreCalled r s → AreCalled s t → AreCalled r t
+called_on r s t a b = (later_on r s t a.0 b.0, makes_on r.log s.log t.log a.1 b.1)
+
+-- ## A line, or none
 -- without a line
 pub later_none : (s t : SeatsView) → t.caller ≡ s.caller → t.log.nodes ≡ s.log.nodes → t.log.past ≡ s.log.past → t.cells ≡ s.cells → AreLater s t
 unfolding LinesGo

@@ -144,6 +144,7 @@ impl<A: Actor, N: CutNode + Drop> Cluster<A, N> {
         alloc: Global,
         name: &Bytes,
     ) -> Result<Cluster<A, N>, OutOfMemory>
+        requires { 1 ≤ length self.nodes }
         ensures { IfOk result (λ new. new ≡ with_actor self name.now) }
     {
         let nodes = self.cells.len();

@@ -5,7 +5,7 @@ ghost use Rattle.mesh.specs.Makers.{heard_of};
 ghost use Rattle.journal_history.specs.declared.node_ask.NodeAsk.TheVariants.{Act};
 ghost use Rattle.play_order.specs.Kept.{list_ask, reached_by, told_by};
 
-use journal_core::{Bytes, CutNode, Heard, OutOfMemory, SharedRequest};
+use journal_core::{Bytes, CutNode, Heard, OutOfMemory, Peers, SharedRequest};
 use journal_history::{NodeAsk, NodeCell, Told};
 use play_calls::{CallerLog, Delivery, Seats, heard_of, told_of};
 use std::alloc::Global;
@@ -75,20 +75,22 @@ fn deliver_late<N: CutNode + Drop>(
     Ok(())
 }
 
-impl<N: CutNode + Drop> Seats for PlaySeats<N> {
-    ghost use Rattle.play_order.specs.PlaySeats.{AreLater};
-    ghost use Rattle.play_order.specs.SeatLaws.{later_same, later_on};
+impl<N: CutNode + Drop> Peers for PlaySeats<N> {
+    ghost use Rattle.play_calls.specs.Logs.{calls_in};
+    ghost use Rattle.play_order.specs.SeatLaws.{AreCalled, called_none, called_on};
 
-    ghost log = { λ s. s.log };
+    ghost calls = { λ s. calls_in s.log.past };
 
-    ghost later = { λ old new. AreLater old new };
+    ghost nodes = { λ s. s.log.nodes };
+
+    ghost called = { λ old new. AreCalled old new };
 
     fn nodes(&self) -> usize {
         self.log.nodes()
     }
 
     #[tactic(auto, using(crate::specs::SeatLaws::seats))]
-    fn call_node(
+    fn call(
         &mut self,
         alloc: Global,
         node: usize,
@@ -106,6 +108,20 @@ impl<N: CutNode + Drop> Seats for PlaySeats<N> {
         self.log.call(node, request, told)?;
         Ok(heard)
     }
+
+    ghost called_none = { called_none };
+
+    ghost called_on = { called_on };
+}
+
+impl<N: CutNode + Drop> Seats for PlaySeats<N> {
+    ghost use Rattle.std.specs.Prelude.{refl};
+    ghost use Rattle.play_order.specs.PlaySeats.{AreLater};
+    ghost use Rattle.play_order.specs.SeatLaws.{later_same, later_on};
+
+    ghost log = { λ s. s.log };
+
+    ghost later = { λ old new. AreLater old new };
 
     #[tactic(auto, using(crate::specs::SeatLaws::seats))]
     fn mark(&mut self, node: usize, next: u64, mute: bool) -> Result<(), OutOfMemory> {
@@ -136,4 +152,12 @@ impl<N: CutNode + Drop> Seats for PlaySeats<N> {
     ghost later_on = { later_on };
 
     ghost later_nodes = { λ r s h. h.nodes };
+
+    ghost calls_are = { λ s. refl };
+
+    ghost nodes_are = { λ s. refl };
+
+    ghost called_lists = { λ r s h. h.1 };
+
+    ghost called_later = { λ r s h. h.0 };
 }

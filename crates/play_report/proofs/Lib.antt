@@ -1,3 +1,4 @@
 pub mod PartLaws
 pub mod NodeLaws
 pub mod LimitLaws
+pub mod MirrorLaws

@@ -1,4 +1,4 @@
-//! The report of a play, and its summary.
+//! The report of a play, its summary, and what is told of a mirror of its nodes.
 #![tactic(auto)]
 
 mod answer;
@@ -6,6 +6,7 @@ mod asks;
 mod entries;
 mod examples;
 mod lasts;
+mod mirrored;
 mod parts;
 mod printed;
 mod printed_requests;
@@ -17,6 +18,7 @@ mod unprinted;
 
 pub use answer::Report;
 pub use examples::reports_are_as_written;
+pub use mirrored::print_mirror;
 pub use report::report_of;
 pub use summary::summary_of;
 pub use unprinted::LONGEST_REPORT;

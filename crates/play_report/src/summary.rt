@@ -35,7 +35,7 @@ fn position_of(name: &[u8], ends: &[End]) -> u64
 }
 
 /// A word, and a number after a space.
-fn put_line(out: &mut Vec<u8>, word: &[u8], number: u128) -> Result<(), OutOfMemory>
+pub(crate) fn put_line(out: &mut Vec<u8>, word: &[u8], number: u128) -> Result<(), OutOfMemory>
     ensures { OnOk result (out.new.items ≡ out.old.items ++ summary_line word.now number) }
 {
     out.extend_from_slice(word)?;

@@ -17,7 +17,7 @@ use Rattle.play_standby.specs.Standbys.{StandbyView, held}
 use Rattle.play_standby.specs.Tailing.{IsTailed}
 use Rattle.play_standby.specs.declared.taking.TakenOver.{TakenOver}
 use Rattle.play_standby.specs.declared.taking.TakenOver.TheVariants as taken
-use Rattle.play_standby.specs.Entering.{entry_begun, Enters, IsTakenOver, IsEntered, StandsEntered, IsTailedIn, is_active}
+use Rattle.play_standby.specs.Entering.{entry_begun, Enters, IsTakenOver, IsEntered, StandsEntered, IsTailedIn, keeps_epoch}
 use Rattle.writer_calls.proofs.WriterEnds.{outcome_of}
 
 -- ## The tail
@@ -35,7 +35,7 @@ module _ (nodes epoch first : ℕ) (old w new : WriterView) (from to : StandbyVi
   entered_writer : is_writing w.phase ≡ true
   entered_writer = ap is_writing took.phase
 
-  pub taken_over : (t : TakenOver) → new ≡ (if is_active t then w else writer_stopped w) → ((images : List Image) → IsTailedIn nodes epoch first images from mid after to t)
+  pub taken_over : (t : TakenOver) → new ≡ (if keeps_epoch t then w else writer_stopped w) → ((images : List Image) → IsTailedIn nodes epoch first images from mid after to t)
       → (images : List Image) → IsTakenOver nodes images old from before after new to t
   taken_over (taken.Active e f) n h images =
       let x = h images in
@@ -45,7 +45,9 @@ module _ (nodes epoch first : ℕ) (old w new : WriterView) (from to : StandbyVi
       (subst (λ (k : ℕ). Enters nodes k first images old from before after w to (tailed.Reached (first - 1))) (sym x.1) mine))
   taken_over (taken.Behind txid causes) n h images = record { epoch = epoch; first = first; writer = w; enters = record { mid = mid; took = took; tail = h images }; stopped = n }
   taken_over (taken.Purged least) n h images = record { epoch = epoch; first = first; writer = w; enters = record { mid = mid; took = took; tail = h images }; stopped = n }
-  taken_over (taken.BadEntry txid) n h images = record { epoch = epoch; first = first; writer = w; enters = record { mid = mid; took = took; tail = h images }; stopped = n }
+  taken_over (taken.BadEntry txid) n h images =
+      let mine : Enters nodes epoch first images old from before after w to (tailed.BadEntry txid) = record { mid = mid; took = took; tail = h images } in
+      record { epoch = epoch; first = first; enters = subst (λ (v : WriterView). Enters nodes epoch first images old from before after v to (tailed.BadEntry txid)) (sym n) mine }
   taken_over taken.OutOfMemory n h images = by (h images)
     where
       by : IsTailed nodes (entry_begun first (held images from)) images mid after to tailed.OutOfMemory ⊎ ((after ≡ mid) × (to ≡ from))
@@ -62,7 +64,7 @@ module _ (nodes epoch first : ℕ) (old w new : WriterView) (from to : StandbyVi
   taken_over (taken.Aborted causes) n h images = absurd (h images)
   taken_over (taken.EpochLimit told) n h images = absurd (h images)
 
-  pub stands_entered : (t : TakenOver) → new ≡ (if is_active t then w else writer_stopped w) → IsTailedIn nodes epoch first [] from mid after to t → StandsEntered t new to
+  pub stands_entered : (t : TakenOver) → new ≡ (if keeps_epoch t then w else writer_stopped w) → IsTailedIn nodes epoch first [] from mid after to t → StandsEntered t new to
   stands_entered (taken.Active e f) n h =
       let o = outcome_of (writer_begun old task.Takeover).writer w before mid (outcome.Takeover epoch first) took.calls in
       subst (λ (v : WriterView). IsEntered f v to) (sym n)

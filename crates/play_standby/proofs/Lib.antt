@@ -10,3 +10,4 @@ pub mod SaveLaws
 pub mod ActiveLaws
 pub mod EntryLaws
 pub mod RoundLaws
+pub mod ExactLaws

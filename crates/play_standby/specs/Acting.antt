@@ -1,8 +1,9 @@
 -- What the calls of an active name node come to.
-use Rattle.std.specs.Prelude.{ℕ, ◌≡◌, List, [], ◌∷◌, Bool, true, false}
+use Rattle.std.specs.Prelude.{ℕ, ◌≡◌, ◌≢◌, List, [], ◌∷◌, Bool, true, false}
 use Rattle.journal_core.specs.declared.peer_call.PeerCall.{PeerCall}
 use Rattle.edit_ops.specs.Records.{EditView}
 use Rattle.writer_core.specs.declared.task.Task.TheVariants as task
+use Rattle.writer_core.specs.Views.{WriterView}
 use Rattle.writer_calls.specs.declared.logged.Logged.{Logged}
 use Rattle.writer_calls.specs.declared.logged.Logged.TheVariants as logged
 use Rattle.writer_calls.specs.Answers.{came_of_logged, came_of_rolled, came_of_closed, came_of_purging}
@@ -24,12 +25,13 @@ use Rattle.play_standby.specs.Actives.{ActiveView, is_open, pending_of}
 -- ## An edit is submitted
 -- it is one more of the edits that were submitted, with this answer, and nothing else changes
 pub record Submits (old : ActiveView) (edit : EditView) (new : ActiveView) (answer : Submitted) : Type 0 where
+  pub opened : is_open old ≡ true
   pub more : IsOneMore old.writer (pending_of old) edit (pending_of new) answer
   pub rest : new ≡ record old { ahead = new.ahead; bodies = new.bodies }
 
 abbrev pub IsSubmitted : ActiveView → EditView → ActiveView → Submitted → Type 0
 IsSubmitted old edit new submitted.Ended = (is_open old ≡ false) × (new ≡ old)
-IsSubmitted old edit new submitted.OutOfMemory = new ≡ old
+IsSubmitted old edit new submitted.OutOfMemory = (is_open old ≡ true) × (new ≡ old)
 IsSubmitted old edit new answer = Submits old edit new answer
 
 -- ## Rounds
@@ -64,11 +66,11 @@ pub record IsKept (old new : ActiveView) (last : ℕ) : Type 0 where
   pub whole : new.whole ≡ old.whole
 
 abbrev pub IsSynced : ActiveView → List PeerCall → ActiveView → List PeerCall → Synced → Type 0
-IsSynced old before new after (synced.Acked first last) = Logs (logged.Acked first last) old before new after × IsKept old new last
+IsSynced old before new after (synced.Acked first last) = Logs (logged.Acked first last) old before new after × IsKept old new last × (old.bodies ≢ [])
 IsSynced old before new after synced.Nothing = (old.bodies ≡ []) × (is_open old ≡ true) × IsIdle old before new after
-IsSynced old before new after (synced.Aborted causes) = Logs (logged.Aborted causes) old before new after × IsLost new
+IsSynced old before new after (synced.Aborted causes) = Logs (logged.Aborted causes) old before new after × IsLost new × (old.bodies ≢ [])
 IsSynced old before new after synced.Ended = (is_open old ≡ false) × IsIdle old before new after
-IsSynced old before new after synced.OutOfMemory = Logs logged.OutOfMemory old before new after × IsLost new
+IsSynced old before new after synced.OutOfMemory = Logs logged.OutOfMemory old before new after × IsLost new × (old.bodies ≢ [])
 
 abbrev pub IsRolled : ActiveView → List PeerCall → ActiveView → List PeerCall → Rolled → Type 0
 IsRolled old before new after (rolled.Rolled start) = Rolls (rolled.Rolled start) old before new after × IsKept old new start
@@ -99,8 +101,9 @@ left_when false bodies a = empty_standby
 abbrev pub left_by : ActiveView → StandbyView
 left_by a = left_when a.whole a.bodies a
 
--- it closed, and this standby was left
-pub record IsLeft (old : ActiveView) (before after : List PeerCall) (standby : StandbyView) (answer : Closed) : Type 0 where
+-- it closed, and this standby and this writer were left
+pub record IsLeft (old : ActiveView) (before after : List PeerCall) (standby : StandbyView) (writer : WriterView) (answer : Closed) : Type 0 where
   pub new : ActiveView
   pub closed : IsClosed old before new after answer
   pub stands : standby ≡ left_by new
+  pub writes : writer ≡ new.writer

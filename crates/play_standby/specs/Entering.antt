@@ -39,6 +39,13 @@ pub record Fails (nodes : ℕ) (images : List Image) (old : WriterView) (from : 
   pub enters : Enters nodes epoch first images old from before after writer to t
   pub stopped : new ≡ writer_stopped writer
 
+-- the tail met an entry that doesn't decode or isn't admitted: the writer stays as its rounds left
+-- it
+pub record Meets (nodes : ℕ) (images : List Image) (old : WriterView) (from : StandbyView) (before after : List PeerCall) (new : WriterView) (to : StandbyView) (t : Tailed) : Type 0 where
+  pub epoch : ℕ
+  pub first : ℕ
+  pub enters : Enters nodes epoch first images old from before after new to t
+
 -- there was no memory to begin empty
 pub record LacksSpace (old : WriterView) (from : StandbyView) (before after : List PeerCall) (new : WriterView) (to : StandbyView) : Type 0 where
   pub epoch : ℕ
@@ -59,7 +66,7 @@ IsTakenOver nodes images old from before after new to (taken.Aborted causes) = R
 IsTakenOver nodes images old from before after new to (taken.EpochLimit told) = Refuses (round.EpochLimit told) old from before after new to
 IsTakenOver nodes images old from before after new to (taken.Behind txid causes) = Fails nodes images old from before after new to (tailed.Behind txid causes)
 IsTakenOver nodes images old from before after new to (taken.Purged first) = Fails nodes images old from before after new to (tailed.Purged first)
-IsTakenOver nodes images old from before after new to (taken.BadEntry txid) = Fails nodes images old from before after new to (tailed.BadEntry txid)
+IsTakenOver nodes images old from before after new to (taken.BadEntry txid) = Meets nodes images old from before after new to (tailed.BadEntry txid)
 IsTakenOver nodes images old from before after new to taken.OutOfMemory =
     Refuses round.OutOfMemory old from before after new to ⊎ Fails nodes images old from before after new to tailed.OutOfMemory ⊎ LacksSpace old from before after new to
 
@@ -74,9 +81,11 @@ abbrev pub StandsEntered : TakenOver → WriterView → StandbyView → Type 0
 StandsEntered (taken.Active epoch first) w s = IsEntered first w s
 StandsEntered _ w s = Unit {0}
 
-abbrev pub is_active : TakenOver → Bool
-is_active (taken.Active epoch first) = true
-is_active _ = false
+-- the writer keeps its epoch
+abbrev pub keeps_epoch : TakenOver → Bool
+keeps_epoch (taken.Active epoch first) = true
+keeps_epoch (taken.BadEntry txid) = true
+keeps_epoch _ = false
 
 -- what the tail of a takeover comes to; it lacks memory in the tail, or before it
 abbrev pub IsTailedIn : ℕ → ℕ → ℕ → List Image → StandbyView → List PeerCall → List PeerCall → StandbyView → TakenOver → Type 0

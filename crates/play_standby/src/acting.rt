@@ -1,11 +1,11 @@
 //! The rounds of an active name node.
-ghost use Rattle.std.specs.Prelude.{◌≡◌, ◌↔◌, [], true, IfOk, IsTrue};
+ghost use Rattle.std.specs.Prelude.{◌≡◌, ◌≢◌, ◌↔◌, [], true, IfOk, OnOk, IsTrue};
 ghost use Rattle.writer_calls.specs.Led.{nodes_of};
 ghost use Rattle.play_standby.specs.Actives.{is_open};
 ghost use Rattle.play_standby.specs.Acting.{IsSynced, IsRolled, IsPurging, IsClosed, IsLeft};
 
 use crate::active::Active;
-use crate::standby::Standby;
+use crate::left::Left;
 use crate::synced::Synced;
 use journal_core::{OutOfMemory, Peers};
 use std::alloc::{AllocError, Global};
@@ -19,26 +19,28 @@ impl Active {
         ensures none { self.new.bodies ≡ [] }
         ensures nodes { nodes_of self.new.writer ≡ nodes_of self.old.writer }
         ensures peers { P.nodes peers.new ≡ P.nodes peers.old }
+        ensures called { result ≢ Synced.OutOfMemory → P.called peers.old peers.new }
     {
-        if self.open {
-            self.log_pending(alloc, peers)
-        } else {
-            Synced::Ended
+        if !self.open {
+            return Synced::Ended;
         }
+        if self.pending.bodies().is_empty() {
+            return Synced::Nothing;
+        }
+        self.log_pending(alloc, peers)
     }
 
-    /// Logs the pending edits, in the open segment.
+    /// Logs the pending edits, of which there are some, in the open segment.
     fn log_pending<P: Peers>(&mut self, alloc: Global, peers: &mut P) -> Synced
         requires open { is_open self.old ≡ true }
+        requires some { self.old.bodies ≢ [] }
         requires nodes { P.nodes peers.old ≡ nodes_of self.old.writer }
         ensures synced { IsSynced self.old (P.calls peers.old) self.new (P.calls peers.new) result }
         ensures none { self.new.bodies ≡ [] }
         ensures nodes { nodes_of self.new.writer ≡ nodes_of self.old.writer }
         ensures peers { P.nodes peers.new ≡ P.nodes peers.old }
+        ensures called { result ≢ Synced.OutOfMemory → P.called peers.old peers.new }
     {
-        if self.pending.bodies().is_empty() {
-            return Synced::Nothing;
-        }
         let bodies = self.pending.take_bodies(alloc);
         match self.writer.log(alloc, peers, bodies) {
             Logged::Acked { first, last } => {
@@ -67,6 +69,7 @@ impl Active {
         ensures none { self.new.bodies ≡ [] }
         ensures nodes { nodes_of self.new.writer ≡ nodes_of self.old.writer }
         ensures peers { P.nodes peers.new ≡ P.nodes peers.old }
+        ensures called { result ≢ Rolled.OutOfMemory → P.called peers.old peers.new }
     {
         match self.writer.roll(alloc, peers) {
             Rolled::Rolled { start } => {
@@ -95,6 +98,7 @@ impl Active {
         ensures none { self.new.bodies ≡ [] }
         ensures nodes { nodes_of self.new.writer ≡ nodes_of self.old.writer }
         ensures peers { P.nodes peers.new ≡ P.nodes peers.old }
+        ensures called { result ≢ Purging.OutOfMemory → P.called peers.old peers.new }
     {
         match self.writer.purge(alloc, peers, min) {
             Purging::Done => Purging::Done,
@@ -113,13 +117,14 @@ impl Active {
     }
 
     /// Ends the open segment, and gives up the epoch; no edit is pending.
-    pub fn close<P: Peers>(&mut self, alloc: Global, peers: &mut P) -> Closed
+    fn close<P: Peers>(&mut self, alloc: Global, peers: &mut P) -> Closed
         requires nodes { P.nodes peers.old ≡ nodes_of self.old.writer }
         requires none { self.old.bodies ≡ [] }
         ensures closed { IsClosed self.old (P.calls peers.old) self.new (P.calls peers.new) result }
         ensures none { self.new.bodies ≡ [] }
         ensures nodes { nodes_of self.new.writer ≡ nodes_of self.old.writer }
         ensures peers { P.nodes peers.new ≡ P.nodes peers.old }
+        ensures called { result ≢ Closed.OutOfMemory → P.called peers.old peers.new }
     {
         match self.writer.close(alloc, peers) {
             Closed::Closed { last } => {
@@ -141,25 +146,26 @@ impl Active {
         }
     }
 
-    /// Closes the segment, and hands the standby back; no edit is pending. `OutOfMemory` hands
-    /// nothing back.
-    pub fn leave<P: Peers>(
-        self,
-        alloc: Global,
-        peers: &mut P,
-    ) -> Result<(Standby, Closed), OutOfMemory>
+    /// Closes the segment, and hands the standby and the writer back; no edit is pending.
+    /// `OutOfMemory` hands nothing back.
+    pub fn leave<P: Peers>(self, alloc: Global, peers: &mut P) -> Result<Left, OutOfMemory>
         requires nodes { P.nodes peers.old ≡ nodes_of self.writer }
         requires none { self.bodies ≡ [] }
-        ensures left { IfOk result (λ both. IsLeft self (P.calls peers.old) (P.calls peers.new) both.0 both.1) }
+        ensures left { IfOk result (λ left. IsLeft self (P.calls peers.old) (P.calls peers.new) left.standby left.writer left.closed) }
         ensures peers { P.nodes peers.new ≡ P.nodes peers.old }
+        ensures called { OnOk result (P.called peers.old peers.new) }
     {
         let mut active = self;
         let closed = active.close(alloc, peers);
         if is_out_of_memory(&closed) {
             return Err(AllocError);
         }
-        let standby = active.quit(alloc)?;
-        Ok((standby, closed))
+        let (standby, writer) = active.quit(alloc)?;
+        Ok(Left {
+            standby,
+            writer,
+            closed,
+        })
     }
 }
 

@@ -15,7 +15,6 @@ use writer_calls::QuorumWriter;
 
 /// A name node that holds an open segment: its writer, the txid that was acknowledged last, and its
 /// namespace with the pending edits, which is what edits are admitted against. Contracts see these.
-#[derive(Drop)]
 pub struct Active {
     pub(crate) writer: QuorumWriter,
     pub(crate) position: u64,
@@ -24,6 +23,19 @@ pub struct Active {
     pub(crate) open: bool,
     /// No round was aborted, and none lacked memory.
     pub(crate) whole: bool,
+}
+
+/// It is let go by one call wherever it is, which keeps proofs short.
+impl Drop for Active {
+    fn drop(self) {
+        let Active {
+            writer: _,
+            position: _,
+            pending: _,
+            open: _,
+            whole: _,
+        } = self;
+    }
 }
 
 impl Model for Active {
@@ -42,7 +54,7 @@ impl Active {
     /// A name node that has taken over: its writer holds an open segment with this start, and its
     /// standby stands right before it. Takes no memory.
     #[tactic(auto, using(crate::proofs::ActiveLaws::entered_calls))]
-    pub fn of(alloc: Global, writer: QuorumWriter, standby: Standby, first: u64) -> Active
+    pub(crate) fn of(alloc: Global, writer: QuorumWriter, standby: Standby, first: u64) -> Active
         requires { IsEntered first writer standby }
         ensures { result ≡ record { writer = writer; position = first; ahead = standby.space; bodies = []; whole = true } }
     {
@@ -56,18 +68,28 @@ impl Active {
         }
     }
 
+    /// Whether a segment is open; then no round was aborted, and none lacked memory.
+    pub fn is_open(&self) -> bool
+        ensures open { result ≡ is_open self.now }
+        ensures whole { is_open self.now ≡ true → self.now.whole ≡ true }
+    {
+        self.open
+    }
+
     /// The txid of the last record that was acknowledged.
     pub fn position(&self) -> u64
-        ensures { result ≡ self.now.position }
+        ensures position { result ≡ self.now.position }
+        ensures within { result ≤ max_number }
+        ensures next { is_open self.now ≡ true → self.now.writer.next ≡ result + 1 }
     {
         self.position
     }
 
-    /// The standby that it leaves, and its writer: at the last acknowledged position where nothing
-    /// was aborted and no edit is pending, and else empty at position 0, which alone takes memory.
-    /// No call is made.
-    pub fn part(self, alloc: Global) -> Result<(Standby, QuorumWriter), OutOfMemory>
-        ensures both { IfOk result (λ both. (both.0 ≡ left_by self) × (both.1 ≡ self.writer)) }
+    /// Gives up without a call: its writer, and the standby at the last acknowledged position where
+    /// nothing was aborted and no edit is pending, and else an empty one at position 0, which alone
+    /// takes memory. `OutOfMemory` hands nothing back.
+    pub fn quit(self, alloc: Global) -> Result<(Standby, QuorumWriter), OutOfMemory>
+        ensures left { IfOk result (λ both. (both.0 ≡ left_by self) × (both.1 ≡ self.writer)) }
         ensures whole { self.whole ≡ true → self.bodies ≡ [] → IsOk result }
     {
         let Active {
@@ -83,16 +105,5 @@ impl Active {
         }
         let standby = Standby::new(alloc)?;
         Ok((standby, writer))
-    }
-
-    /// Gives up without a call: the standby at the last acknowledged position where nothing was
-    /// aborted and no edit is pending, and else an empty one at position 0, which alone takes
-    /// memory. `OutOfMemory` hands nothing back.
-    pub fn quit(self, alloc: Global) -> Result<Standby, OutOfMemory>
-        ensures left { IfOk result (λ standby. standby ≡ left_by self) }
-        ensures whole { self.whole ≡ true → self.bodies ≡ [] → IsOk result }
-    {
-        let (standby, _) = self.part(alloc)?;
-        Ok(standby)
     }
 }

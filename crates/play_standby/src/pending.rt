@@ -22,7 +22,7 @@ use std::mem;
 /// they lead to, which is what the next one is admitted against, and their bodies. Contracts see
 /// both. Beside them stands the room in which each record is put together.
 #[derive(Drop)]
-pub struct Pending {
+pub(crate) struct Pending {
     ahead: Namespace,
     bodies: BodyList,
     scratch: Vec<u8>,
@@ -49,7 +49,7 @@ fn refuse(refusal: AdmitRefusal) -> Submitted
 
 impl Pending {
     /// No edit pends yet after this namespace. Takes no memory.
-    pub fn new(alloc: Global, ahead: Namespace) -> Pending
+    pub(crate) fn new(alloc: Global, ahead: Namespace) -> Pending
         ensures { result ≡ none_pending ahead }
     {
         Pending {
@@ -60,14 +60,14 @@ impl Pending {
     }
 
     /// The bodies of the edits that pend, in order.
-    pub fn bodies(&self) -> &BodyList
+    pub(crate) fn bodies(&self) -> &BodyList
         ensures { result.now ≡ self.now.bodies }
     {
         &self.bodies
     }
 
     /// The namespace that the edits lead to, and their bodies. Takes no memory.
-    pub fn into_parts(self) -> (Namespace, BodyList)
+    pub(crate) fn into_parts(self) -> (Namespace, BodyList)
         ensures ahead { result.0 ≡ self.ahead }
         ensures bodies { result.1 ≡ self.bodies }
     {
@@ -76,7 +76,7 @@ impl Pending {
     }
 
     /// Takes the bodies, which are now to be logged; the namespace stays. Takes no memory.
-    pub fn take_bodies(&mut self, alloc: Global) -> BodyList
+    pub(crate) fn take_bodies(&mut self, alloc: Global) -> BodyList
         ensures bodies { result ≡ self.old.bodies }
         ensures none { self.new ≡ none_pending self.old.ahead }
     {
@@ -87,7 +87,7 @@ impl Pending {
     /// txid is `next`, from 1 to 2^62 + 1: the edit is admitted against the namespace with those
     /// that pend, and pends too. It is tested in this order: `Repeated` and `Refused`, `TooLong`.
     /// It is never answered `Ended`, and `OutOfMemory` only where it is admitted.
-    pub fn submit(&mut self, alloc: Global, room: u64, next: u64, edit: &Edit) -> Submitted
+    pub(crate) fn submit(&mut self, alloc: Global, room: u64, next: u64, edit: &Edit) -> Submitted
         requires { PendsFrom next self.old }
         ensures submitted { (w : WriterView) → PendsAt w room next self.old → IsPended w self.old edit.now self.new result }
         ensures same { SameUnlessTaken self.old self.new result }

@@ -6,7 +6,7 @@ use play_names::Tailed;
 
 /// Whether a tail goes on.
 #[derive(Drop)]
-pub enum Step {
+pub(crate) enum Step {
     /// It asks the next node next: the one after those that told something in this pass.
     Going,
     /// It is over.
@@ -15,14 +15,14 @@ pub enum Step {
 
 impl Step {
     /// It goes on.
-    pub fn has_more_calls(&self) -> bool
+    pub(crate) fn has_more_calls(&self) -> bool
         ensures { result ≡ is_going self.now }
     {
         matches!(self, Step::Going)
     }
 
     /// How it ended; only of a tail that doesn't go on.
-    pub fn end_tail(self) -> Tailed
+    pub(crate) fn end_tail(self) -> Tailed
         requires { is_going self ≡ false }
         ensures { self ≡ Step.Ended result }
     {

@@ -13,16 +13,16 @@ impl Active {
     /// Submits an edit: it is admitted against the namespace with the pending edits, and pends too.
     /// It is tested in this order: `Ended`, `Repeated` and `Refused`, `TooLong`. Memory is wanted
     /// only for an edit that is admitted.
-    pub fn submit(&mut self, alloc: Global, edit: Edit) -> Submitted
-        ensures submitted { IsSubmitted self.old edit self.new result }
+    pub fn submit(&mut self, alloc: Global, edit: &Edit) -> Submitted
+        ensures submitted { IsSubmitted self.old edit.now self.new result }
         ensures same { SameUnlessTaken self.old self.new result }
         ensures writer { self.new.writer ≡ self.old.writer }
-        ensures memory { result ≡ Submitted.OutOfMemory → admit_of self.old.ahead edit ≡ None }
+        ensures memory { result ≡ Submitted.OutOfMemory → admit_of self.old.ahead edit.now ≡ None }
     {
         if !self.open {
             return Submitted::Ended;
         }
         let room = self.writer.room();
-        self.pending.submit(alloc, room, self.position + 1, &edit)
+        self.pending.submit(alloc, room, self.position + 1, edit)
     }
 }

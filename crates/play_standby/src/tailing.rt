@@ -1,6 +1,6 @@
 //! A standby reads the log.
 ghost use Rattle.std.specs.Option.{ForSome};
-ghost use Rattle.std.specs.Prelude.{◌≡◌, ◌≤◌, ◌<◌, ◌+◌, ◌++◌, ◌∷◌, [], List, true, false, length, IfOk, OnErr, IfSome, MatchResult};
+ghost use Rattle.std.specs.Prelude.{◌≡◌, ◌≢◌, ◌≤◌, ◌<◌, ◌+◌, ◌++◌, ◌∷◌, [], List, true, false, length, IfOk, OnOk, OnErr, IfSome, MatchResult};
 ghost use Rattle.journal_core.specs.Limits.{max_number};
 ghost use Rattle.journal_core.specs.Views.{last_txid};
 ghost use Rattle.journal_core.specs.Peers.{Lists, FitsHeard};
@@ -58,6 +58,7 @@ impl Standby {
             → IsTailed (P.nodes peers.old) (pass_begun until (held images self.old)) images (P.calls peers.old) (P.calls peers.new) self.new result }
         ensures exact { IsExact until self.new.position result }
         ensures nodes { P.nodes peers.new ≡ P.nodes peers.old }
+        ensures called { result ≢ Tailed.OutOfMemory → P.called peers.old peers.new }
     {
         match self.pass_on(alloc, peers, until) {
             Ok(tailed) => tailed,
@@ -81,6 +82,7 @@ impl Standby {
         ensures err { OnErr result ((images : List Image)
             → StopsShort (P.nodes peers.old) (pass_begun until (held images self.old)) images (P.calls peers.old) (P.calls peers.new) self.new) }
         ensures nodes { P.nodes peers.new ≡ P.nodes peers.old }
+        ensures called { OnOk result (P.called peers.old peers.new) }
     {
         let mut told = Vec::new(alloc);
         let mut step = self.begin_pass(until);
@@ -90,10 +92,10 @@ impl Standby {
         Ok(step.end_tail())
     }
 
-    /// A pass of a tail begins, unless its end, at or above the position, is reached. A caller that
-    /// makes the calls itself begins with this, and with nothing told; takes no memory.
+    /// A pass of a tail begins, unless its end, at or above the position, is reached; takes no
+    /// memory.
     #[tactic(auto, using(crate::proofs::PassLaws::pass_going))]
-    pub fn begin_pass(&self, until: Option<u64>) -> Step
+    fn begin_pass(&self, until: Option<u64>) -> Step
         requires { ForSome until (λ last. self.now.position ≤ last) }
         ensures going { IsGoing until self.now.position result }
         ensures step { (images : List Image) (work : Work)
@@ -126,6 +128,7 @@ impl Standby {
             → LeadsTail (P.nodes peers.old) begun before (P.calls peers.old) (GoesOn (begin_asking until told.old.items (held images self.old)))
             → StopsShort (P.nodes peers.old) begun images before (P.calls peers.new) self.new) }
         ensures nodes { P.nodes peers.new ≡ P.nodes peers.old }
+        ensures called { OnOk result (P.called peers.old peers.new) }
     {
         let heard = self.read_next(alloc, peers, told.len() + 1)?;
         self.hear(alloc, peers.nodes(), until, told, heard)
@@ -143,16 +146,17 @@ impl Standby {
         ensures listed { Lists (P.calls peers.old) node (request.Read (self.now.position + 1)) result (P.calls peers.new) }
         ensures fits { IfOk result (λ heard. FitsHeard (request.Read (self.now.position + 1)) heard) }
         ensures nodes { P.nodes peers.new ≡ P.nodes peers.old }
+        ensures called { OnOk result (P.called peers.old peers.new) }
     {
         let from = self.position + 1;
         let request = SharedRequest::new(alloc, Request::Read { from })?;
-        peers.call(alloc, node, &request)
+        peers.call(alloc, node, request)
     }
 
     /// Takes what was heard of the next node, of `nodes`: the one after those that `told` something
     /// in this pass, which was asked for the edits after the position. `told` is then what was told
     /// in the pass that goes on. `OutOfMemory` leaves what was applied so far; the tail is over.
-    pub fn hear(
+    fn hear(
         &mut self,
         alloc: Global,
         nodes: usize,

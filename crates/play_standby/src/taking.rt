@@ -1,9 +1,8 @@
 //! A standby takes over.
-ghost use Rattle.std.specs.Prelude.{◌≡◌, List};
-ghost use Rattle.journal_core.specs.Peers.{IsPermitted};
+ghost use Rattle.std.specs.Prelude.{◌≡◌, ◌≢◌, ◌≤◌, List};
 ghost use Rattle.ns_edits.specs.Replay.{Image};
 ghost use Rattle.writer_calls.specs.Led.{nodes_of};
-ghost use Rattle.play_standby.specs.Entering.{IsTailedIn, IsTakenOver, StandsEntered, is_active};
+ghost use Rattle.play_standby.specs.Entering.{IsTailedIn, IsTakenOver, StandsEntered, keeps_epoch};
 
 use crate::standby::Standby;
 use journal_core::Peers;
@@ -14,7 +13,7 @@ use writer_core::CauseList;
 
 /// What came of a takeover.
 #[derive(Drop)]
-pub enum TakenOver {
+pub(crate) enum TakenOver {
     /// The writer owns this epoch and holds an open segment with this start, and the standby stands
     /// right before it.
     Active { epoch: u64, first: u64 },
@@ -36,25 +35,26 @@ pub enum TakenOver {
 
 /// A standby takes over as this writer: the writer's rounds, and then a tail up to the txid before
 /// the first segment, which a standby with more than that begins empty at 0. Where the tail doesn't
-/// get there the writer gives up; what the tail applied stays.
-pub fn take_over<P: Peers>(
+/// get there the writer gives up, unless a bad entry was met; what the tail applied stays.
+pub(crate) fn take_over<P: Peers>(
     alloc: Global,
     writer: &mut QuorumWriter,
     standby: &mut Standby,
     peers: &mut P,
 ) -> TakenOver
-    requires permitted { IsPermitted (P.nodes peers.old) }
+    requires some { 1 ≤ P.nodes peers.old }
     requires nodes { P.nodes peers.old ≡ nodes_of writer.old }
     ensures taken { (images : List Image)
         → IsTakenOver (P.nodes peers.old) images writer.old standby.old (P.calls peers.old) (P.calls peers.new) writer.new standby.new result }
     ensures stands { StandsEntered result writer.new standby.new }
     ensures nodes { nodes_of writer.new ≡ nodes_of writer.old }
     ensures peers { P.nodes peers.new ≡ P.nodes peers.old }
+    ensures called { result ≢ TakenOver.OutOfMemory → P.called peers.old peers.new }
 {
     match writer.takeover(alloc, peers) {
         Taken::Taken { epoch, first } => {
             let taken = tail_in(alloc, standby, peers, epoch, first);
-            if is_active(&taken) {
+            if keeps_epoch(&taken) {
                 return taken;
             }
             writer.stop();
@@ -66,11 +66,11 @@ pub fn take_over<P: Peers>(
     }
 }
 
-/// It is active.
-fn is_active(taken: &TakenOver) -> bool
-    ensures { result ≡ is_active taken.now }
+/// The writer keeps its epoch: the tail got there, or met a bad entry.
+fn keeps_epoch(taken: &TakenOver) -> bool
+    ensures { result ≡ keeps_epoch taken.now }
 {
-    matches!(taken, TakenOver::Active { .. })
+    matches!(taken, TakenOver::Active { .. } | TakenOver::BadEntry { .. })
 }
 
 /// The tail of a takeover.
@@ -81,10 +81,11 @@ fn tail_in<P: Peers>(
     epoch: u64,
     first: u64,
 ) -> TakenOver
-    requires { IsPermitted (P.nodes peers.old) }
+    requires { 1 ≤ P.nodes peers.old }
     ensures tailed { (images : List Image)
         → IsTailedIn (P.nodes peers.old) epoch first images standby.old (P.calls peers.old) (P.calls peers.new) standby.new result }
     ensures peers { P.nodes peers.new ≡ P.nodes peers.old }
+    ensures called { result ≢ TakenOver.OutOfMemory → P.called peers.old peers.new }
 {
     let last = first.saturating_sub(1);
     match standby.enter(alloc, last) {

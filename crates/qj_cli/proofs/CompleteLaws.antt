@@ -23,16 +23,17 @@ use Rattle.cli_commands.specs.declared.tool.Tool.{Tool}
 use Rattle.cli_commands.specs.Uses.{SourceUse, SinkUse, DiskUse}
 use Rattle.cli_commands.specs.Faults.{status_of}
 use Rattle.cli_commands.specs.Told.{IsToldAs, TellsFault, TellsText, Told, wrote_text, told_fault}
-use Rattle.cli_commands.specs.Commands.{Asked, asked_in, play, run, node, fsck, gen, list, AskFor}
+use Rattle.cli_commands.specs.Commands.{Asked, asked_in, play, run, mirror, node, fsck, gen, list, AskFor}
 use Rattle.qj_cli.specs.Sound.{AreSound, ComeOf}
-use Rattle.qj_cli.specs.Plays.{longest_script, AreTold, IsReadWhole, IsTooLong, IsPlayFault, Plays}
+use Rattle.qj_cli.specs.Plays.{longest_script, AreTold, IsReadWhole, IsTooLong, IsReadingFault, IsPlayFault, Plays}
 use Rattle.qj_cli.specs.Report.{HasLongReport}
 use Rattle.cli_commands.specs.Listing.{longest_file, IsTooLong as IsTooLongFile, file_under, IsFileFault, OfFile, GivesListing, IsListFault}
 use Rattle.cli_commands.specs.Serving.{status_at, is_disk_fault, IsNodeSessionOf, IsNodeSession, ServesNode, IsUnopened, IsServedOrNot, opened, unopened, Serves}
 use Rattle.cli_commands.specs.Checks.{status_with, GivesFindings, IsCheckFault}
 use Rattle.qj_cli.specs.Generates.{IsSummaryFault, Generates}
+use Rattle.qj_cli.specs.Mirrors.{Mirrors}
 use Rattle.qj_cli.specs.Does.{Does, Refuses, NeedsThreads}
-use Rattle.qj_cli.specs.Complete.{HasScript, HasRequests, HasNode, HasFile, NothingFails, IsComplete}
+use Rattle.qj_cli.specs.Complete.{HasText, HasScript, HasRequests, HasNode, HasFile, NothingFails, IsComplete}
 use Rattle.cli_commands.proofs.OneListing.{in_grammar}
 use Rattle.cli_commands.proofs.WordLaws.{one_command}
 use Rattle.qj_cli.proofs.RequestLaws.{no_bad_next, no_long_next}
@@ -56,8 +57,7 @@ some_told : (told : Option (List ℕ)) (bytes read : List ℕ) → told ≡ Some
 some_told None bytes read e is = absurd (cc e)
 some_told (Some x) bytes read e is = is ∙ cc e
 
-module _ (Leaves : ScriptView → Mesh → List End → Type 0) (source : SourceUse) (right : HasScript Leaves source)
-    (reads : Rose source.faults_before source.faults_now → ⊥) (no_rule : ScriptBreaksNoRule) where
+module _ (source : SourceUse) (right : HasText source) (no_rule : ScriptBreaksNoRule) where
   same_bytes : (read : List ℕ) → AreTold source.told read → read ≡ right.bytes
   same_bytes read is = some_told source.told right.bytes read right.told is
 
@@ -71,20 +71,22 @@ module _ (Leaves : ScriptView → Mesh → List End → Type 0) (source : Source
       let short : length right.bytes ≤ longest_script = right.short in
       omega (arith, same, more, short)
 
+module _ (Leaves : ScriptView → Mesh → List End → Type 0) (source : SourceUse) (right : HasScript Leaves source)
+    (reads : Rose source.faults_before source.faults_now → ⊥) (no_rule : ScriptBreaksNoRule) where
   not_reported : (read : List ℕ) → IsReadWhole source read → HasLongReport Leaves read → ⊥
   not_reported read whole long =
-      let same : HasLongReport Leaves right.bytes = subst (HasLongReport Leaves) (same_bytes read whole.told) long in
+      let same : HasLongReport Leaves right.has.bytes = subst (HasLongReport Leaves) (same_bytes source right.has no_rule read whole.told) long in
       let within = right.within same.text same.report in
       let longer = same.longer in
       omega (arith, within, longer)
 
   limit_none : (number : ℕ) → IsPlayFault Leaves source (fault.Limit number) → ⊥
-  limit_none number (inl is) = not_long is.1
+  limit_none number (inl is) = not_long source right.has no_rule is.1
   limit_none number (inr is) = not_reported is.0 is.1 is.2.2
 
   play_fault : (of : CommandFault) (s : Status) (sink : SinkUse) → IsPlayFault Leaves source of → TellsFault of s sink → Done s
   play_fault (fault.Usage place) s sink is tells = absurd is
-  play_fault (fault.BadScript line rule) s sink is tells = let none : fault_of is.0 ≡ None = unbroken is.0 is.1 in let some = is.2 in absurd (cc (none, some))
+  play_fault (fault.BadScript line rule) s sink is tells = let none : fault_of is.0 ≡ None = unbroken source right.has no_rule is.0 is.1 in let some = is.2 in absurd (cc (none, some))
   play_fault fault.NoFile s sink is tells = absurd is
   play_fault (fault.BadBytes place cause) s sink is tells = absurd is
   play_fault (fault.BadImage place cause) s sink is tells = absurd is
@@ -100,6 +102,28 @@ module _ (Leaves : ScriptView → Mesh → List End → Type 0) (source : Source
   play_done : (sink : SinkUse) (s : Status) → (Rose sink.faults_before sink.faults_now → ⊥) → Plays Leaves source sink s → Done s
   play_done sink s writes (wrote_text good bytes gives tells) = text_done good s bytes sink gives.good_is writes tells
   play_done sink s writes (told_fault of is tells) = play_fault of s sink is tells
+
+-- ## A mirror of a play's nodes
+module _ (source : SourceUse) (right : HasText source) (reads : Rose source.faults_before source.faults_now → ⊥) (no_rule : ScriptBreaksNoRule) where
+  mirror_fault : (of : CommandFault) (s : Status) (sink : SinkUse) → IsReadingFault source of → TellsFault of s sink → Done s
+  mirror_fault (fault.Usage place) s sink is tells = absurd is
+  mirror_fault (fault.BadScript line rule) s sink is tells =
+      let none : fault_of is.0 ≡ None = unbroken source right no_rule is.0 is.1 in let some = is.2 in absurd (cc (none, some))
+  mirror_fault fault.NoFile s sink is tells = absurd is
+  mirror_fault (fault.BadBytes place cause) s sink is tells = absurd is
+  mirror_fault (fault.BadImage place cause) s sink is tells = absurd is
+  mirror_fault (fault.BadFile name) s sink is tells = absurd is
+  mirror_fault fault.NotJson s sink is tells = absurd is
+  mirror_fault (fault.BadEntry index) s sink is tells = absurd is
+  mirror_fault (fault.TooManyEntries number) s sink is tells = absurd is
+  mirror_fault (fault.Limit number) s sink is tells = absurd (not_long source right no_rule is.1)
+  mirror_fault fault.ReadFault s sink is tells = absurd (reads is)
+  mirror_fault fault.DiskFault s sink is tells = absurd is
+  mirror_fault fault.OutOfMemory s sink is tells = memory_told tells.told s tells.told_as tells.status_is
+
+  mirror_done : (sink : SinkUse) (s : Status) → (Rose sink.faults_before sink.faults_now → ⊥) → Mirrors source sink s → Done s
+  mirror_done sink s writes (wrote_text good bytes gives tells) = text_done good s bytes sink gives.good_is writes tells
+  mirror_done sink s writes (told_fault of is tells) = mirror_fault of s sink is tells
 
 -- ## A generated script
 summary_fault : (of : CommandFault) (s : Status) (sink : SinkUse) → IsSummaryFault of → TellsFault of s sink → Done s
@@ -260,6 +284,7 @@ pub completes : {D : Type 0} (asked : Asked) (source : SourceUse) (sink : SinkUs
     → Does asked source sink disk s → IsComplete asked source sink disk s
 completes play source sink disk s no_rule does = λ right nothing. play_done ComeOf source right nothing.reads no_rule sink s nothing.writes does.0
 completes run source sink disk s no_rule does = λ right nothing. play_done AreSound source right nothing.reads no_rule sink s nothing.writes does.0
+completes mirror source sink disk s no_rule does = λ right nothing. mirror_done source right nothing.reads no_rule sink s nothing.writes does.0
 completes node source sink disk s no_rule does =
     λ right nothing. served_done source sink disk s right.0 right.1 nothing (no_disk_fault source sink disk s right.0 right.1 nothing does) does.served
 completes fsck source sink disk s no_rule does = λ right nothing. checked disk nothing.calls sink s nothing.writes does.told
@@ -284,6 +309,7 @@ does_as is by source sink disk s e does = subst (λ (c : Command). Does (asked_i
 pub needs_run : (asked : Asked) → NeedsThreads asked → asked ≡ run
 needs_run play n = absurd n
 needs_run run n = refl
+needs_run mirror n = absurd n
 needs_run node n = absurd n
 needs_run fsck n = absurd n
 needs_run (gen number edits nodes) n = absurd n

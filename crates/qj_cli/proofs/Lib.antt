@@ -3,3 +3,4 @@ pub mod ReportLaws
 pub mod PlayLaws
 pub mod RequestLaws
 pub mod CompleteLaws
+pub mod MirrorLaws

@@ -21,6 +21,7 @@ use Rattle.play_report.specs.Text.{text_of}
 use Rattle.play_report.specs.Summary.{summary_text}
 use Rattle.qj_cli.specs.Sound.{AreSound, ComeOf}
 use Rattle.qj_cli.specs.Report.{IsReport, ScriptsHaveOneReport}
+use Rattle.qj_cli.specs.Mirrors.{text_of_mesh, ScriptsHaveOneMirror}
 use Rattle.qj_cli.specs.Generates.{IsSummary, NumbersHaveOneSummary}
 use Rattle.qj_cli.proofs.MeshEnds.{meshes_hold_nothing}
 
@@ -101,3 +102,10 @@ one_report one_script one_play bytes a b f g =
 pub one_summary : OnePlay → NumbersHaveOneSummary
 one_summary one_play number edits nodes a b f g =
     f.printed ∙ ap (λ x. summary_text (mesh_of x) (ends_of x)) (one_play (generated number edits nodes) f.play g.play f.sound.plays g.sound.plays) ∙ sym g.printed
+
+pub one_mirror : TextIsOfOneScript → OnePlay → ScriptsHaveOneMirror
+one_mirror one_script one_play bytes a b f g =
+    let e : f.script ≡ g.script = one_script bytes f.script g.script f.reads g.reads in
+    let plays : Plays f.script g.leaves.play = subst (λ s. Plays s g.leaves.play) (sym e) g.leaves.sound.plays in
+    let same : f.leaves.play ≡ g.leaves.play = one_play f.script f.leaves.play g.leaves.play f.leaves.sound.plays plays in
+    f.printed ∙ ap text_of_mesh (f.leaves.mesh ∙ ap mesh_of same ∙ sym g.leaves.mesh) ∙ sym g.printed

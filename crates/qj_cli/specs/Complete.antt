@@ -19,21 +19,25 @@ use Rattle.cli_commands.specs.declared.tool.Tool.{Tool}
 use Rattle.cli_commands.specs.declared.status.Status.{Status}
 use Rattle.cli_commands.specs.declared.status.Status.TheVariants as status
 use Rattle.cli_commands.specs.Uses.{SourceUse, SinkUse, DiskUse, AReadFailed, AWriteFailed}
-use Rattle.cli_commands.specs.Commands.{Asked, play, run, node, fsck, gen, list}
+use Rattle.cli_commands.specs.Commands.{Asked, play, run, mirror, node, fsck, gen, list}
 use Rattle.qj_cli.specs.Sound.{AreSound as AreSoundLists, ComeOf}
 use Rattle.qj_cli.specs.Report.{IsReport}
 use Rattle.qj_cli.specs.Plays.{longest_script}
 use Rattle.cli_commands.specs.Listing.{longest_file, IsInGrammar, file_under}
 
 -- ## Input in its grammar and within the limits
--- the source's bytes are a script's, and none of its reports is longer than a report may be
-pub record HasScript (Leaves : ScriptView → Mesh → List End → Type 0) (source : SourceUse) : Type 0 where
+-- the source's bytes are a script's
+pub record HasText (source : SourceUse) : Type 0 where
   pub bytes : List ℕ
   pub told : source.told ≡ Some bytes
   pub short : length bytes ≤ longest_script
   pub script : ScriptView
   pub reads : IsScriptText bytes script
-  pub within : (text : List ℕ) → IsReport Leaves bytes text → length text ≤ longest_report
+
+-- and none of its reports is longer than a report may be
+pub record HasScript (Leaves : ScriptView → Mesh → List End → Type 0) (source : SourceUse) : Type 0 where
+  pub has : HasText source
+  pub within : (text : List ℕ) → IsReport Leaves has.bytes text → length text ≤ longest_report
 
 abbrev pub AreRequests : List (List ℕ) → Type 0
 AreRequests [] = Unit {0}
@@ -69,6 +73,7 @@ pub record HasFile {D : Type 0} (of : Tool) (disk : DiskUse D) (name : List ℕ)
 abbrev pub IsRight : {D : Type 0} → Asked → SourceUse → DiskUse D → Type 0
 IsRight play source disk = HasScript ComeOf source
 IsRight run source disk = HasScript AreSoundLists source
+IsRight mirror source disk = HasText source
 IsRight node source disk = HasRequests source × HasNode disk
 IsRight fsck source disk = Unit {0}
 IsRight (gen number edits nodes) source disk = Unit {0}
@@ -85,6 +90,7 @@ pub record NothingFails {D : Type 0} (source : SourceUse) (sink : SinkUse) (disk
 abbrev pub IsDone : Asked → Status → Type 0
 IsDone play s = s ≡ status.Ok
 IsDone run s = s ≡ status.Ok
+IsDone mirror s = s ≡ status.Ok
 IsDone node s = s ≡ status.Ok
 IsDone fsck s = (s ≡ status.Ok) ⊎ (s ≡ status.Unsound)
 IsDone (gen number edits nodes) s = s ≡ status.Ok

@@ -4,19 +4,21 @@ use Rattle.cli_commands.specs.declared.status.Status.{Status}
 use Rattle.cli_commands.specs.declared.command_fault.CommandFault.TheVariants as fault
 use Rattle.cli_commands.specs.Uses.{SourceUse, SinkUse, DiskUse}
 use Rattle.cli_commands.specs.Told.{TellsFault}
-use Rattle.cli_commands.specs.Commands.{Asked, play, run, node, fsck, gen, list}
+use Rattle.cli_commands.specs.Commands.{Asked, play, run, mirror, node, fsck, gen, list}
 use Rattle.qj_cli.specs.Sound.{AreSound, ComeOf}
 use Rattle.qj_cli.specs.Plays.{Plays}
 use Rattle.cli_commands.specs.Listing.{Lists}
 use Rattle.cli_commands.specs.Serving.{Serves}
 use Rattle.cli_commands.specs.Checks.{Checks}
 use Rattle.qj_cli.specs.Generates.{Generates}
+use Rattle.qj_cli.specs.Mirrors.{Mirrors}
 
 -- With this status, by what it did to its source, its sink and its disk. A play leaves the disk
 -- alone, also that of a generated script.
 abbrev pub Does : {D : Type 0} → Asked → SourceUse → SinkUse → DiskUse D → Status → Type 0
 Does play source sink disk s = Plays ComeOf source sink s × (disk.now ≡ disk.before)
 Does run source sink disk s = Plays AreSound source sink s × (disk.now ≡ disk.before)
+Does mirror source sink disk s = Mirrors source sink s × (disk.now ≡ disk.before)
 Does node source sink disk s = Serves source sink disk s
 Does fsck source sink disk s = Checks disk sink s
 Does (gen number edits nodes) source sink disk s = Generates number edits nodes sink s × (disk.now ≡ disk.before)
@@ -35,6 +37,7 @@ NeedsThreads _ = ⊥
 abbrev pub ReadsNone : Asked → Type 0
 ReadsNone play = ⊥
 ReadsNone run = ⊥
+ReadsNone mirror = ⊥
 ReadsNone node = ⊥
 ReadsNone fsck = Unit {0}
 ReadsNone (gen number edits nodes) = Unit {0}

@@ -2,6 +2,7 @@
 ghost use Rattle.qj_cli.specs.Sound.{AreSound, ComeOf};
 ghost use Rattle.qj_cli.specs.Report.{ScriptsHaveOneReport, ReportsShowNoFault};
 ghost use Rattle.qj_cli.specs.Generates.{NumbersHaveOneSummary};
+ghost use Rattle.qj_cli.specs.Mirrors.{ScriptsHaveOneMirror};
 ghost use Rattle.cli_commands.specs.Listing.{FilesHaveOneListing, FilesHaveOneFault, ListedFilesHaveNoFault};
 
 use play_model::{a_mesh_that_agrees_shows_no_fault, one_script_has_one_play};
@@ -10,6 +11,14 @@ use play_script::text_is_of_one_script;
 /// A script has one report, so it is too long or it isn't.
 pub fn scripts_have_one_report()
     ensures { ScriptsHaveOneReport }
+{
+    text_is_of_one_script();
+    one_script_has_one_play();
+}
+
+/// A script has one text of what a mirror of its play's nodes holds.
+pub fn scripts_have_one_mirror()
+    ensures { ScriptsHaveOneMirror }
 {
     text_is_of_one_script();
     one_script_has_one_play();

@@ -1,15 +1,17 @@
 //! The top call of the program: words and a script's bytes, a file of a disk, or requests to a node
-//! come in; a report, a summary, a listing, a segment, replies or a fault line go out.
+//! come in; a report, a summary, what a mirror holds, a listing, a segment, replies or a fault line go
+//! out.
 #![tactic(auto)]
 
 mod generating;
 mod laws;
+mod mirroring;
 mod playing;
 mod plays;
 mod top;
 
 pub use laws::{
     files_have_one_listing, numbers_have_one_summary, reports_show_no_fault,
-    scripts_have_one_report,
+    scripts_have_one_mirror, scripts_have_one_report,
 };
 pub use top::{qjm, qjm_alone};

@@ -42,7 +42,7 @@ fn script_of_bytes(alloc: Global, bytes: &[u8]) -> Result<Script, CommandFault>
 /// Reads the source, and the script of its bytes. The bytes are never given back: an allocator that
 /// sees so large a piece come back keeps later pieces of that size, as the nodes' rings, once they
 /// are given back.
-fn read_source<S: Source>(alloc: Global, source: &mut S) -> Result<Script, CommandFault>
+pub(crate) fn read_source<S: Source>(alloc: Global, source: &mut S) -> Result<Script, CommandFault>
     ensures script { IfOk result (λ script. GivesScript (read_from S.left S.faults source.old source.new) script) }
     ensures fault { IfErr result (IsReadingFault (read_from S.left S.faults source.old source.new)) }
 {

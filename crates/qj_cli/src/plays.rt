@@ -1,6 +1,10 @@
 //! Scripts played over fresh nodes on disks in memory, in order or by threads.
-ghost use Rattle.std.specs.Prelude.{IfOk};
+ghost use Rattle.std.specs.Prelude.{◌≡◌, true, IfOk, map};
+ghost use Rattle.std.specs.List.{All};
+ghost use Rattle.base_disk.specs.MemDisk.{disk_view, CannotFail};
+ghost use Rattle.disk_node.specs.Node.{told_state};
 ghost use Rattle.play_script.specs.Grammar.{IsScript};
+ghost use Rattle.play_model.specs.Plays.{states_after};
 ghost use Rattle.qj_cli.specs.Sound.{AreSound, ComeOf};
 
 use base_disk::MemDisk;
@@ -46,7 +50,9 @@ pub fn play_soundly(
     script: &Script,
 ) -> Result<Played<JournalNode<MemDisk>>, OutOfMemory>
     requires { IsScript script.now }
-    ensures { IfOk result (λ played. ComeOf script.now played.mesh played.ends) }
+    ensures comes { IfOk result (λ played. ComeOf script.now played.mesh played.ends) }
+    ensures states { IfOk result (λ played. map (λ n. told_state true (disk_view n.disk).seen n.memory n.rows) played.nodes.items ≡ states_after played.mesh.histories) }
+    ensures steady { IfOk result (λ played. All (λ n. CannotFail n.disk) played.nodes.items) }
 {
     scripts_are_playable();
     a_play_agrees();

@@ -7,6 +7,7 @@ ghost use Rattle.qj_cli.specs.Does.{Does, Refuses, ReadsNone, NeedsThreads};
 ghost use Rattle.qj_cli.specs.Complete.{IsComplete};
 
 use crate::generating::play_generated;
+use crate::mirroring::mirror_script;
 use crate::playing::{play_script, run_script};
 use base_disk::Disk;
 use base_outside::{Sink, Source};
@@ -41,6 +42,10 @@ fn do_command<S: Source, K: Sink, D: Disk>(
             disk,
         }),
         Command::Run => Err(disk),
+        Command::Mirror => Ok(Exit {
+            status: mirror_script(alloc, source, sink),
+            disk,
+        }),
         Command::Node => Ok(serve_node(alloc, source, sink, disk)),
         Command::Fsck => {
             let mut disk = disk;
@@ -111,6 +116,9 @@ pub fn qjm_alone<S: Source, K: Sink, D: Disk>(
 /// - `run` does the same by a thread for each actor and one for the operator, each with its own
 ///   lines in order; how their calls fall among one another is the schedule's. `pass` is called
 ///   before each call. The call may wait.
+/// - `mirror` plays the script as `play` does, makes one pass of a fresh mirror over its nodes, and
+///   writes for each node how many final segments it told or why it told none, the segments that
+///   are held, and how many edits they have. The disk isn't called.
 /// - `oev list NAME`, `oev stats NAME` and `oev json NAME` read the disk's file of that name, a
 ///   segment's, and write a line for each of its edits, how many there are of each kind, or all as
 ///   an array of JSON. The source isn't read, and the disk isn't changed.
@@ -132,8 +140,8 @@ pub fn qjm_alone<S: Source, K: Sink, D: Disk>(
 ///   stand for the state after some of the lines, stopped inside the next one, and no fewer than
 ///   were answered by then.
 ///
-/// A report, a summary, a listing, a segment and findings are computed before any of it is written.
-/// `Usage`: other words, with the place, from 0, of the first word that is missing or wrong;
+/// A report, what a mirror holds, a summary, a listing, a segment and findings are computed before
+/// any of it is written. `Usage`: other words, with the place, from 0, of the first word that is missing or wrong;
 /// neither the source nor the disk is called then. `Limit`: the source has more than 1,048,576
 /// bytes, the report would have more than 268,435,456, the file has more than 134,217,728, or the
 /// listing more than 16,384 entries; of a node a line with more than 1,048,576, or a source with

@@ -3,7 +3,7 @@ use writer_core::{CauseList, Outcome};
 
 /// What comes of a task of any kind.
 #[derive(Drop)]
-pub(crate) enum Came {
+pub enum Came {
     /// It wasn't begun: no segment is open.
     NotActive,
     /// It wasn't begun: a body, the list or the segment would pass this limit.

@@ -23,7 +23,8 @@ pub enum Closed {
 impl Closed {
     pub(crate) fn of(came: Came) -> Closed
         requires { IsOwn aim.Close came }
-        ensures { came_of_closed result ≡ came }
+        ensures told { came_of_closed result ≡ came }
+        ensures memory { came ≡ Came.OutOfMemory → result ≡ Closed.OutOfMemory }
     {
         match came {
             Came::Done(Outcome::Close { last }) => Closed::Closed { last },

@@ -10,6 +10,7 @@ mod quorum;
 mod rolled;
 mod taken;
 
+pub use came::Came;
 pub use closed::Closed;
 pub use logged::Logged;
 pub use plain_peers::PlainPeers;

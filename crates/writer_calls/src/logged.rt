@@ -27,7 +27,8 @@ pub enum Logged {
 impl Logged {
     pub(crate) fn of(came: Came) -> Logged
         requires { IsOwn aim.Log came }
-        ensures { came_of_logged result ≡ came }
+        ensures told { came_of_logged result ≡ came }
+        ensures memory { came ≡ Came.OutOfMemory → result ≡ Logged.OutOfMemory }
     {
         match came {
             Came::Done(Outcome::Log { first, last }) => Logged::Acked { first, last },

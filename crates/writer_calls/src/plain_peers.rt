@@ -1,5 +1,5 @@
 //! Plain nodes that are called in memory.
-ghost use Rattle.std.specs.Prelude.{◌≡◌, ◌≤◌, ◌↔◌, [], IfOk, IsTrue, length, replicate};
+ghost use Rattle.std.specs.Prelude.{◌≡◌, ◌≤◌, ◌↔◌, [], IfOk, OnOk, IsTrue, length, replicate};
 ghost use Rattle.journal_core.specs.Peers.{Lists, FitsHeard};
 ghost use Rattle.journal_core.specs.declared.heard.Heard.TheVariants.{Answer};
 ghost use Rattle.journal_core.specs.Step.{node_step, fresh_state};
@@ -95,6 +95,8 @@ impl Peers for PlainPeers {
 
     ghost nodes = { λ p. length p.nodes };
 
+    ghost called = { λ p q. Unit {0} };
+
     fn nodes(&self) -> usize {
         self.nodes.len()
     }
@@ -105,24 +107,29 @@ impl Peers for PlainPeers {
         &mut self,
         alloc: Global,
         node: usize,
-        request: &SharedRequest,
+        request: SharedRequest,
     ) -> Result<Heard, OutOfMemory>
         requires first { 1 ≤ node }
         requires last { node ≤ length self.old.nodes }
-        ensures listed { Lists self.old.calls node request.now result self.new.calls }
-        ensures fits { IfOk result (λ heard. FitsHeard request.now heard) }
+        ensures listed { Lists self.old.calls node request result self.new.calls }
+        ensures fits { IfOk result (λ heard. FitsHeard request heard) }
         ensures nodes { length self.new.nodes ≡ length self.old.nodes }
-        ensures step { IfOk result (λ heard. IsStepOf self.old.nodes node request.now heard self.new.nodes) }
+        ensures called { OnOk result (Unit {0}) }
+        ensures step { IfOk result (λ heard. IsStepOf self.old.nodes node request heard self.new.nodes) }
     {
-        let listed = request.share()?;
         self.calls.reserve(1)?;
-        let reply = answer(alloc, &mut self.nodes[node - 1], request)?;
+        let reply = answer(alloc, &mut self.nodes[node - 1], &request)?;
         let heard = Heard::Answer(reply);
+        let listed = heard.share(alloc)?;
         self.calls.push(PeerCall {
             node,
-            request: listed,
-            heard: heard.share(alloc)?,
+            request,
+            heard: listed,
         })?;
         Ok(heard)
     }
+
+    ghost called_none = { λ p. tt };
+
+    ghost called_on = { λ p q r g h. tt };
 }

@@ -23,7 +23,8 @@ pub enum Purging {
 impl Purging {
     pub(crate) fn of(came: Came) -> Purging
         requires { IsOwn aim.Purge came }
-        ensures { came_of_purging result ≡ came }
+        ensures told { came_of_purging result ≡ came }
+        ensures memory { came ≡ Came.OutOfMemory → result ≡ Purging.OutOfMemory }
     {
         match came {
             Came::Done(Outcome::Purge) => Purging::Done,

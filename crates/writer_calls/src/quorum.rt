@@ -1,6 +1,5 @@
 //! A writer that makes its own calls.
-ghost use Rattle.std.specs.Prelude.{◌≡◌, ◌≢◌, ◌<◌, [], IfOk, OnOk, OnErr};
-ghost use Rattle.journal_core.specs.Peers.{IsPermitted};
+ghost use Rattle.std.specs.Prelude.{◌≡◌, ◌≢◌, ◌<◌, ◌≤◌, [], IfOk, OnOk, OnErr};
 ghost use Rattle.writer_core.specs.declared.task.Task.TheVariants as task;
 ghost use Rattle.writer_core.specs.declared.task.Task.{Task as TaskValue};
 ghost use Rattle.writer_core.specs.declared.turn.Turn.{Turn as TurnValue};
@@ -51,9 +50,9 @@ fn has_more_calls(turn: Turn) -> bool
 }
 
 impl QuorumWriter {
-    /// A writer of that many nodes, which holds no epoch.
+    /// A writer of that many nodes, of which there is one or more; it holds no epoch.
     pub fn new(alloc: Global, nodes: usize) -> Result<QuorumWriter, OutOfMemory>
-        requires { IsPermitted nodes }
+        requires { 1 ≤ nodes }
         ensures { IfOk result (λ q. q ≡ new_writer nodes) }
     {
         let writer = Writer::new(alloc, nodes)?;
@@ -67,6 +66,7 @@ impl QuorumWriter {
         ensures came { Comes task.Takeover self.old (P.calls peers.old) self.new (P.calls peers.new) (came_of_taken result) }
         ensures nodes { nodes_of self.new ≡ nodes_of self.old }
         ensures peers { P.nodes peers.new ≡ P.nodes peers.old }
+        ensures called { result ≢ Taken.OutOfMemory → P.called peers.old peers.new }
     {
         Taken::of(self.run(alloc, peers, Task::Takeover))
     }
@@ -78,6 +78,7 @@ impl QuorumWriter {
         ensures came { Comes (task.Log bodies) self.old (P.calls peers.old) self.new (P.calls peers.new) (came_of_logged result) }
         ensures nodes { nodes_of self.new ≡ nodes_of self.old }
         ensures peers { P.nodes peers.new ≡ P.nodes peers.old }
+        ensures called { result ≢ Logged.OutOfMemory → P.called peers.old peers.new }
     {
         Logged::of(self.run(alloc, peers, Task::Log(bodies)))
     }
@@ -88,6 +89,7 @@ impl QuorumWriter {
         ensures came { Comes task.Roll self.old (P.calls peers.old) self.new (P.calls peers.new) (came_of_rolled result) }
         ensures nodes { nodes_of self.new ≡ nodes_of self.old }
         ensures peers { P.nodes peers.new ≡ P.nodes peers.old }
+        ensures called { result ≢ Rolled.OutOfMemory → P.called peers.old peers.new }
     {
         Rolled::of(self.run(alloc, peers, Task::Roll))
     }
@@ -98,6 +100,7 @@ impl QuorumWriter {
         ensures came { Comes task.Close self.old (P.calls peers.old) self.new (P.calls peers.new) (came_of_closed result) }
         ensures nodes { nodes_of self.new ≡ nodes_of self.old }
         ensures peers { P.nodes peers.new ≡ P.nodes peers.old }
+        ensures called { result ≢ Closed.OutOfMemory → P.called peers.old peers.new }
     {
         Closed::of(self.run(alloc, peers, Task::Close))
     }
@@ -108,6 +111,7 @@ impl QuorumWriter {
         ensures came { Comes (task.Purge min) self.old (P.calls peers.old) self.new (P.calls peers.new) (came_of_purging result) }
         ensures nodes { nodes_of self.new ≡ nodes_of self.old }
         ensures peers { P.nodes peers.new ≡ P.nodes peers.old }
+        ensures called { result ≢ Purging.OutOfMemory → P.called peers.old peers.new }
     {
         Purging::of(self.run(alloc, peers, Task::Purge { min }))
     }
@@ -124,7 +128,7 @@ impl QuorumWriter {
     fn call_next<P: Peers>(&mut self, alloc: Global, peers: &mut P) -> Result<Turn, OutOfMemory>
         requires under_way { IsInRound self.old.phase }
         requires nodes { P.nodes peers.old ≡ nodes_of self.old }
-        ensures called { IfOk result (λ turn. IsCalled self.old (P.calls peers.old) self.new (P.calls peers.new) turn) }
+        ensures one { IfOk result (λ turn. IsCalled self.old (P.calls peers.old) self.new (P.calls peers.new) turn) }
         ensures turn { IfOk result (λ turn. IsTurnOf self.old.aim self.new.phase turn) }
         ensures aim { IfOk result (λ turn. self.new.aim ≡ self.old.aim) }
         ensures fewer { OnOk result (calls_left self.new < calls_left self.old) }
@@ -132,11 +136,12 @@ impl QuorumWriter {
         ensures unlisted { OnErr result (P.calls peers.new ≡ P.calls peers.old) }
         ensures nodes { nodes_of self.new ≡ nodes_of self.old }
         ensures peers { P.nodes peers.new ≡ P.nodes peers.old }
+        ensures called { OnOk result (P.called peers.old peers.new) }
     {
         let Some((node, request)) = self.writer.next(alloc)? else {
             unreachable!()
         };
-        let heard = peers.call(alloc, node, &request)?;
+        let heard = peers.call(alloc, node, request)?;
         Ok(self.writer.hear(node, heard))
     }
 
@@ -150,6 +155,7 @@ impl QuorumWriter {
         ensures err { OnErr result ((turn : TurnValue) × Leads self.old (P.calls peers.old) (P.calls peers.new) (record { writer = self.new; turn = turn })) }
         ensures nodes { nodes_of self.new ≡ nodes_of self.old }
         ensures peers { P.nodes peers.new ≡ P.nodes peers.old }
+        ensures called { OnOk result (P.called peers.old peers.new) }
     {
         let mut turn = Turn::Going;
         while has_more_calls(turn) {
@@ -158,15 +164,16 @@ impl QuorumWriter {
         Ok(turn)
     }
 
-    /// A task, from its beginning to its end.
+    /// A task of any kind, from its beginning to its end; a log has a body.
     #[tactic(auto, using(crate::proofs::Comes::refusals))]
-    fn run<P: Peers>(&mut self, alloc: Global, peers: &mut P, task: Task) -> Came
+    pub fn run<P: Peers>(&mut self, alloc: Global, peers: &mut P, task: Task) -> Came
         requires nodes { P.nodes peers.old ≡ nodes_of self.old }
         requires body { HasBody task }
         ensures came { Comes task self.old (P.calls peers.old) self.new (P.calls peers.new) result }
         ensures own { IsOwn (aim_of task) result }
         ensures nodes { nodes_of self.new ≡ nodes_of self.old }
         ensures peers { P.nodes peers.new ≡ P.nodes peers.old }
+        ensures called { result ≢ Came.OutOfMemory → P.called peers.old peers.new }
     {
         match self.begin(task) {
             Begun::Going => self.go_on(alloc, peers),
@@ -195,6 +202,7 @@ impl QuorumWriter {
         ensures own { IsOwn self.old.aim result }
         ensures nodes { nodes_of self.new ≡ nodes_of self.old }
         ensures peers { P.nodes peers.new ≡ P.nodes peers.old }
+        ensures called { result ≢ Came.OutOfMemory → P.called peers.old peers.new }
     {
         match self.finish(alloc, peers) {
             Ok(turn) => self.came_of(alloc, turn),

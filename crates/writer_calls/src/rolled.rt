@@ -23,7 +23,8 @@ pub enum Rolled {
 impl Rolled {
     pub(crate) fn of(came: Came) -> Rolled
         requires { IsOwn aim.Roll came }
-        ensures { came_of_rolled result ≡ came }
+        ensures told { came_of_rolled result ≡ came }
+        ensures memory { came ≡ Came.OutOfMemory → result ≡ Rolled.OutOfMemory }
     {
         match came {
             Came::Done(Outcome::Roll { start }) => Rolled::Rolled { start },

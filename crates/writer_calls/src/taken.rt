@@ -23,7 +23,8 @@ pub enum Taken {
 impl Taken {
     pub(crate) fn of(came: Came) -> Taken
         requires { IsOwn aim.Takeover came }
-        ensures { came_of_taken result ≡ came }
+        ensures told { came_of_taken result ≡ came }
+        ensures memory { came ≡ Came.OutOfMemory → result ≡ Taken.OutOfMemory }
     {
         match came {
             Came::Done(Outcome::Takeover { epoch, first }) => Taken::Taken { epoch, first },

@@ -2,7 +2,7 @@ use Rattle.disk_segment.proofs.SealLemmas.{carried}
 use Rattle.journal_core.specs.Cuts.{cost_of}
 use Rattle.journal_core.specs.Effects.{after_effect}
 use Rattle.disk_effects.specs.Due.{effect_of}
-use Rattle.disk_node.proofs.DoingCalls.{ok_counts}
+use Rattle.disk_node.proofs.DoingCalls.{does_failed, ok_counts}
 use Rattle.disk_node.proofs.DoingEffect.{rows_then, told_either, covers_fault, cut_carried, numbers_noted, held_then, can_apart, opened_then}
 use Rattle.disk_node.proofs.doing.do_effect.Goals as goal
 
@@ -13,6 +13,13 @@ pub returns-in_err-do_calls-clause-covers : goal.returns-in_err-do_calls-clause-
 returns-in_err-do_calls-clause-covers g c = λ gs t due failed.
     covers_fault c.args.request.now c.args.effect gs c.args.table.now c.do_calls.new.table
     (c.do_calls.ensures.fault (carried c.do_calls.result c.from_residual.result c.in_err-do_calls.field-0.0 c.in_err-do_calls.was c.from_residual.ensures.1 failed)) t due
+
+pub returns-in_err-do_calls-clause-counts : goal.returns-in_err-do_calls-clause-counts
+returns-in_err-do_calls-clause-counts g c = λ t s can.
+    (does_failed c.do_calls.result c.from_residual.result
+    (c.do_calls.ensures.does t s (can_apart (g.D.DiskModel.view c.args.disk.now) c.args.memory.now c.args.table.now s c.args.request.now c.args.effect can))
+    c.from_residual.ensures.0
+    (carried c.do_calls.result c.from_residual.result c.in_err-do_calls.field-0.0 c.in_err-do_calls.was c.from_residual.ensures.1)).counts
 
 pub returns-in_err-do_calls-clause-cut : goal.returns-in_err-do_calls-clause-cut
 returns-in_err-do_calls-clause-cut g c = λ t s can.

@@ -1,7 +1,8 @@
 use Rattle.std.proofs.Common.{◌≡◌, ◌+◌, get_or, take, drop, length, arith, refl, ◌∙◌, rules}
 use Rattle.std.proofs.lemmas.List.{drop_all}
 use Rattle.std.specs.Prelude.{IsErr}
-use Rattle.disk_segment.proofs.SealLemmas.{carried}
+use Rattle.base_disk.proofs.Causes.{cause_since, cause_fine}
+use Rattle.disk_segment.proofs.SealLemmas.{carried, handed_on}
 use Rattle.disk_segment.proofs.Counts.{counted_as}
 use Rattle.journal_step.specs.declared.durable_effect.DurableEffect.TheVariants.{Promise}
 use Rattle.disk_node.proofs.DoneLaws.{begun, way_here, way_next, next_way}
@@ -94,7 +95,12 @@ pub returns-in_err-do_effect-clause-call : goal.returns-in_err-do_effect-clause-
 returns-in_err-do_effect-clause-call g c = record {
   tells = search rules;
   reads = c.do_effect.ensures.call.reads ∙ c.loop-effect.invariant.unread;
-  cause = search rules;
+  cause =
+      cause_since (g.D.DiskModel.faults c.args.disk.now) (g.D.DiskModel.faults c.loop-effect.disk) (g.D.DiskModel.faults c.do_effect.new.disk)
+      (g.D.DiskModel.steady c.args.disk.now) (g.D.DiskModel.steady c.loop-effect.disk) (g.D.DiskModel.steady c.do_effect.new.disk)
+      c.do_effect.result c.from_residual.result c.loop-effect.invariant.way.same c.loop-effect.invariant.way.steady c.do_effect.ensures.call.cause
+      (carried c.do_effect.result c.from_residual.result c.in_err-do_effect.field-0.0 c.in_err-do_effect.was c.from_residual.ensures.1)
+      (handed_on c.do_effect.result c.from_residual.result c.in_err-do_effect.field-0.0 c.in_err-do_effect.was c.from_residual.ensures.1);
   shortage = record {
     later = omega (arith, c.loop-effect.invariant.shortages, c.do_effect.ensures.call.shortage.later);
     short = λ failed.
@@ -107,7 +113,9 @@ pub returns-clause-call : goal.returns-clause-call
 returns-clause-call g c = record {
   tells = search rules;
   reads = c.loop-effect.invariant.unread;
-  cause = search rules;
+  cause =
+      cause_fine (g.D.DiskModel.faults c.args.disk.now) (g.D.DiskModel.faults c.loop-effect.disk) (g.D.DiskModel.steady c.args.disk.now)
+      (g.D.DiskModel.steady c.loop-effect.disk) _ c.loop-effect.invariant.way.same c.loop-effect.invariant.way.steady (λ failed. absurd (cc));
   shortage = record { later = c.loop-effect.invariant.shortages; short = λ failed. absurd (cc) };
 }
 

@@ -1,7 +1,7 @@
 use Rattle.std.specs.Prelude.{map, string_bytes}
 use Rattle.disk_opening.specs.OpenSteps.{step_result}
 use Rattle.disk_opening.proofs.SyncLemmas.{index_at}
-use Rattle.disk_opening.proofs.ReadLoop.{begun, one_more, ended_with, read_whole, inside_map, past_map}
+use Rattle.disk_opening.proofs.ReadLoop.{begun, step_goes, one_more, ended_with, read_whole, inside_map, past_map}
 use Rattle.disk_opening.proofs.opening.read_all.Goals as goal
 
 pub loop-name-init : goal.loop-name-init
@@ -20,7 +20,7 @@ loop-name-preserved g c =
     (g.D.DiskModel.tells c.read_one.new.disk) (g.D.DiskModel.view c.read_one.new.disk) (g.D.DiskModel.faults c.read_one.new.disk)
     (g.D.DiskModel.steady c.read_one.new.disk) (step_result c.read_one.result) c.read_one.ensures.call.tells (λ t. c.read_one.ensures.disk t)
     c.read_one.ensures.call.cause
-    c.read_one.new.table c.read_one.result (λ t. c.read_one.ensures.told t) c.in_default.is
+    c.read_one.new.table c.read_one.result (λ t. c.read_one.ensures.told t) (step_goes c.read_one.result c.in_default.is) c.in_default.is
 
 pub returns-in-Some-clause-told : goal.returns-in-Some-clause-told
 returns-in-Some-clause-told g c = λ t repaired.

@@ -1,23 +1,26 @@
 use Rattle.std.proofs.Common.{sym, ap, subst, take, List, ℕ, rules}
-use Rattle.std.specs.Prelude.{map, string_bytes, IsSome}
+use Rattle.std.specs.Prelude.{map, string_bytes, IsSome, IsOk}
 use Rattle.disk_opening.specs.Completing.{IsLeftOver, NoName, Clears}
-use Rattle.disk_segment.proofs.SealLemmas.{carried}
+use Rattle.base_disk.proofs.Causes.{cause_since, cause_fine}
+use Rattle.disk_segment.proofs.SealLemmas.{carried, handed_on}
 use Rattle.disk_opening.proofs.SyncLemmas.{next_done, all_done, listed_as}
 use Rattle.disk_opening.proofs.TurnLemmas.{turn}
-use Rattle.disk_opening.proofs.ClearLemmas.{begun, one_more, next_there, finals_so_far, given_up_mends, given_up_cause, going_cause, all_cleared, none_apart, final_not_left}
+use Rattle.disk_opening.proofs.ClearLemmas.{begun, one_more, next_there, finals_so_far, given_up_mends, all_cleared, none_apart, final_not_left}
 use Rattle.disk_opening.proofs.sweeping.sweep_all.Goals as goal
 
 pub loop-name-init : goal.loop-name-init
 loop-name-init g c =
+    let ok : IsOk c.list.result = search rules in
     begun (IsLeftOver c.args.finals.now) NoName (none_apart c.args.finals.now) (g.D.DiskModel.tells c.args.disk.now)
     (g.D.DiskModel.view c.args.disk.now) (λ t. g.met.D.Disk.sound _ t) (map string_bytes c.deref-name-items.result.now)
     (g.D.DiskModel.faults c.args.disk.now) (g.D.DiskModel.steady c.args.disk.now)
     (g.D.DiskModel.tells c.list.new.self) (g.D.DiskModel.view c.list.new.self) (g.D.DiskModel.faults c.list.new.self)
     (g.D.DiskModel.steady c.list.new.self) c.list.result c.list.ensures.call.tells (λ t. c.list.ensures.disk t)
-    (λ t. listed_as _ _ _ (ap (map string_bytes) c.deref-name-items.ensures.value) (c.in_ok-names.ensures.names t)) c.list.ensures.call.cause
+    (λ t. listed_as _ _ _ (ap (map string_bytes) c.deref-name-items.ensures.value) (c.in_ok-names.ensures.names t)) c.list.ensures.call.cause ok
 
 pub loop-name-preserved : goal.loop-name-preserved
 loop-name-preserved g c =
+    let ok : IsOk c.sweep_one.result = search rules in
     one_more (IsLeftOver c.args.finals.now) NoName (none_apart c.args.finals.now) (g.D.DiskModel.tells c.args.disk.now)
     (g.D.DiskModel.view c.args.disk.now) (λ t. g.met.D.Disk.sound _ t) (map string_bytes c.deref-name-items.result.now)
     (g.D.DiskModel.faults c.args.disk.now) (g.D.DiskModel.steady c.args.disk.now)
@@ -26,7 +29,7 @@ loop-name-preserved g c =
     (g.D.DiskModel.steady c.loop-name.disk) c.loop-name.invariant
     (g.D.DiskModel.tells c.sweep_one.new.disk) (g.D.DiskModel.view c.sweep_one.new.disk) (g.D.DiskModel.faults c.sweep_one.new.disk)
     (g.D.DiskModel.steady c.sweep_one.new.disk) c.sweep_one.result c.sweep_one.ensures.call.tells (λ t. c.sweep_one.ensures.mends t)
-    c.sweep_one.ensures.call.cause
+    c.sweep_one.ensures.call.cause ok
     (string_bytes c.name-item.result) _ (next_done string_bytes c.deref-name-items.result.now c.loop-name.name-index c.name-item.result c.loop-name-test.true c.name-item.is)
     (λ t. subst (λ (n : List ℕ). Clears (IsLeftOver c.args.finals.now) NoName n (g.D.DiskModel.view c.loop-name.disk).seen
     (g.D.DiskModel.view c.sweep_one.new.disk).seen) c.as_str.ensures.value (c.in_ok-sweep_one.ensures.clears t))
@@ -57,17 +60,11 @@ pub returns-in_err-sweep_one-clause-call : goal.returns-in_err-sweep_one-clause-
 returns-in_err-sweep_one-clause-call g c = record {
   tells = search rules;
   cause =
-      given_up_cause (IsLeftOver c.args.finals.now) NoName (none_apart c.args.finals.now) (g.D.DiskModel.tells c.args.disk.now)
-      (g.D.DiskModel.view c.args.disk.now) (λ t. g.met.D.Disk.sound _ t) (map string_bytes c.deref-name-items.result.now)
-      (g.D.DiskModel.faults c.args.disk.now) (g.D.DiskModel.steady c.args.disk.now)
-      (g.D.DiskModel.tells c.loop-name.disk) (g.D.DiskModel.view c.loop-name.disk)
-      (map string_bytes (take c.loop-name.name-index c.deref-name-items.result.now)) (g.D.DiskModel.faults c.loop-name.disk)
-      (g.D.DiskModel.steady c.loop-name.disk) c.loop-name.invariant
-      (g.D.DiskModel.tells c.sweep_one.new.disk) (g.D.DiskModel.view c.sweep_one.new.disk) (g.D.DiskModel.faults c.sweep_one.new.disk)
-      (g.D.DiskModel.steady c.sweep_one.new.disk) c.sweep_one.result c.sweep_one.ensures.call.tells (λ t. c.sweep_one.ensures.mends t)
-      c.sweep_one.ensures.call.cause
-      c.from_residual-in_err-sweep_one.result (carried c.sweep_one.result c.from_residual-in_err-sweep_one.result c.in_err-sweep_one.field-0.0
-      c.in_err-sweep_one.was c.from_residual-in_err-sweep_one.ensures.1);
+      cause_since (g.D.DiskModel.faults c.args.disk.now) (g.D.DiskModel.faults c.loop-name.disk) (g.D.DiskModel.faults c.sweep_one.new.disk)
+      (g.D.DiskModel.steady c.args.disk.now) (g.D.DiskModel.steady c.loop-name.disk) (g.D.DiskModel.steady c.sweep_one.new.disk)
+      c.sweep_one.result c.from_residual-in_err-sweep_one.result c.loop-name.invariant.same c.loop-name.invariant.steady c.sweep_one.ensures.call.cause
+      (carried c.sweep_one.result c.from_residual-in_err-sweep_one.result c.in_err-sweep_one.field-0.0 c.in_err-sweep_one.was c.from_residual-in_err-sweep_one.ensures.1)
+      (handed_on c.sweep_one.result c.from_residual-in_err-sweep_one.result c.in_err-sweep_one.field-0.0 c.in_err-sweep_one.was c.from_residual-in_err-sweep_one.ensures.1);
 }
 
 pub returns-in_err-sweep_one-clause-mends : goal.returns-in_err-sweep_one-clause-mends
@@ -96,10 +93,6 @@ pub returns-clause-call : goal.returns-clause-call
 returns-clause-call g c = record {
   tells = search rules;
   cause =
-      going_cause (IsLeftOver c.args.finals.now) NoName (none_apart c.args.finals.now) (g.D.DiskModel.tells c.args.disk.now)
-      (g.D.DiskModel.view c.args.disk.now) (λ t. g.met.D.Disk.sound _ t) (map string_bytes c.deref-name-items.result.now)
-      (g.D.DiskModel.faults c.args.disk.now) (g.D.DiskModel.steady c.args.disk.now)
-      (g.D.DiskModel.tells c.loop-name.disk) (g.D.DiskModel.view c.loop-name.disk)
-      (map string_bytes (take c.loop-name.name-index c.deref-name-items.result.now)) (g.D.DiskModel.faults c.loop-name.disk)
-      (g.D.DiskModel.steady c.loop-name.disk) c.loop-name.invariant _ (λ failed. absurd (cc));
+      cause_fine (g.D.DiskModel.faults c.args.disk.now) (g.D.DiskModel.faults c.loop-name.disk) (g.D.DiskModel.steady c.args.disk.now)
+      (g.D.DiskModel.steady c.loop-name.disk) _ c.loop-name.invariant.same c.loop-name.invariant.steady (λ failed. absurd (cc));
 }

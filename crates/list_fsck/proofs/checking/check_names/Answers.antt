@@ -1,5 +1,5 @@
-use Rattle.std.proofs.Common.{sym, subst, arith, List, ℕ}
-use Rattle.std.specs.Prelude.{string_bytes, IsSome}
+use Rattle.std.proofs.Common.{sym, subst, arith, List, ℕ, rules}
+use Rattle.std.specs.Prelude.{string_bytes, IsSome, IsOk}
 use Rattle.list_fsck.proofs.Loop.{one_more, still_rests, is_there, next_done}
 use Rattle.list_fsck.proofs.checking.check_names.Goals as goal
 
@@ -24,12 +24,13 @@ returns-in_err-check_one-clause-disk g c =
 
 pub loop-name-preserved : goal.loop-name-preserved
 loop-name-preserved g c =
+    let ok : IsOk c.check_one.result = search rules in
     one_more (g.D.DiskModel.tells c.args.disk.now) (g.D.DiskModel.view c.args.disk.now) (λ t. g.met.D.Disk.sound _ t) (g.D.DiskModel.faults c.args.disk.now) (g.D.DiskModel.steady c.args.disk.now)
     (g.D.DiskModel.tells c.loop-name.disk) (g.D.DiskModel.view c.loop-name.disk) _ c.loop-name.name-index c.loop-name.so_far
     (g.D.DiskModel.faults c.loop-name.disk) (g.D.DiskModel.steady c.loop-name.disk) c.loop-name.invariant
     (g.D.DiskModel.tells c.check_one.new.disk) (g.D.DiskModel.view c.check_one.new.disk) (g.D.DiskModel.faults c.check_one.new.disk)
     (g.D.DiskModel.steady c.check_one.new.disk) c.check_one.result c.check_one.ensures.call.tells (λ t. c.check_one.ensures.disk t)
     c.check_one.ensures.call.cause
-    (string_bytes c.name-item.result) c.as_str.result.now _ c.check_one.new.so_far c.as_str.ensures.value
+    ok (string_bytes c.name-item.result) c.as_str.result.now _ c.check_one.new.so_far c.as_str.ensures.value
     (next_done string_bytes c.args.names.now c.loop-name.name-index c.name-item.result c.loop-name-test.true c.name-item.is)
     c.in_ok-check_one.ensures.adds

@@ -1,4 +1,5 @@
-use Rattle.std.proofs.Common.{take}
+use Rattle.std.proofs.Common.{take, rules}
+use Rattle.std.specs.Prelude.{IsOk}
 use Rattle.std.proofs.lemmas.List.{take_more}
 use Rattle.std.proofs.lemmas.List.Elements.{Contains-get_or}
 use Rattle.ns_store.proofs.ThinLaws.{still_quiet, one_more, front_within}
@@ -21,6 +22,7 @@ returns-in_err-remove_image-clause-quiet g c =
 
 pub loop-txid-preserved : goal.loop-txid-preserved
 loop-txid-preserved g c =
+    let ok : IsOk c.remove_image.result = search rules in
     one_more (g.D.DiskModel.tells c.args.disk.now) (g.D.DiskModel.view c.args.disk.now) (λ t. g.met.D.Disk.sound _ t) c.args.txids.now c.requires
     (g.D.DiskModel.faults c.args.disk.now) (g.D.DiskModel.steady c.args.disk.now)
     (g.D.DiskModel.tells c.loop-txid.disk) (g.D.DiskModel.view c.loop-txid.disk) (λ t. g.met.D.Disk.sound _ t)
@@ -30,5 +32,5 @@ loop-txid-preserved g c =
     (g.D.DiskModel.tells c.remove_image.new.disk) (g.D.DiskModel.view c.remove_image.new.disk) (g.D.DiskModel.faults c.remove_image.new.disk)
     (g.D.DiskModel.steady c.remove_image.new.disk) c.remove_image.result c.remove_image.ensures.call.tells (λ t. c.remove_image.ensures.quiet t)
     c.remove_image.ensures.call.cause
-    _ (take_more c.args.txids.now c.loop-txid.txid-index 0 c.loop-txid-test.true)
+    ok _ (take_more c.args.txids.now c.loop-txid.txid-index 0 c.loop-txid-test.true)
     (λ u among. front_within c.loop-txid.txid-index c.args.txids.now u among) (λ t. c.in_ok-remove_image.ensures.removed t)

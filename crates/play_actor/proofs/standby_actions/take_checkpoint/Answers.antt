@@ -1,18 +1,19 @@
 use Rattle.std.proofs.Common.{ℕ, [], ◌∷◌, codes, ap, ◌∙◌}
 use Rattle.play_names.specs.Results.{word}
-use Rattle.play_actor.proofs.StandbyLaws.{active_saves, saves_takes}
+use Rattle.play_standby.specs.Standbys.{held}
+use Rattle.play_model.specs.Lines.{Saves}
+use Rattle.play_actor.specs.Nodes.{NameView, kept_resting}
+use Rattle.play_actor.proofs.NodeLaws.{node_takes}
+use Rattle.play_actor.proofs.RestingLaws.{saves_takes}
 use Rattle.play_actor.proofs.standby_actions.take_checkpoint.Goals as goal
-
-pub returns-then-held-clause-takes : goal.returns-then-held-clause-takes
-returns-then-held-clause-takes g c =
-    λ w.
-    active_saves w c.args.held.holding (g.S.Seats.log c.args.seats.now) (g.S.Seats.log c.say_all.new.seats) c.args.held.is_open
-    c.in_ok-one_word.field-0.items c.requires.free c.if-held.true c.in_ok-one_word.ensures
-    c.in_ok-say_all.ensures.leads
 
 pub returns-clause-takes : goal.returns-clause-takes
 returns-clause-takes g c =
-    λ w.
-    saves_takes w c.args.held.holding c.checkpoint.new.self (g.S.Seats.log c.args.seats.now) (g.S.Seats.log c.say_all-2.new.seats) c.args.held.is_open
-    c.in_ok-one_number.field-0.items c.requires.free c.if-held.false
-    c.in_ok-checkpoint.ensures (c.in_ok-one_number.ensures ∙ ap (λ (p : ℕ). word (codes "checkpoint") p ∷ []) c.position.ensures.position) c.in_ok-say_all-2.ensures.leads
+    let log = g.S.Seats.log c.args.seats.now in
+    let new = g.S.Seats.log c.say_all.new.seats in
+    let w = c.args.resting.writer in
+    let s = c.args.resting.standby in
+    node_takes log.nodes Saves (kept_resting w c.args.images s log) c.resting.result w (held c.save.new.self s) new
+    (ap (λ (x : NameView). x.writer) c.resting.ensures) (ap (λ (x : NameView). x.holding) c.resting.ensures)
+    (saves_takes log.nodes w c.args.images c.save.new.self s log new c.in_ok-one_number.field-0.items c.requires.idle c.requires.rests c.in_ok-save.ensures
+    (c.in_ok-one_number.ensures ∙ ap (λ (p : ℕ). word (codes "checkpoint") p ∷ []) c.position-position.ensures.position) c.in_ok-say_all.ensures.leads)

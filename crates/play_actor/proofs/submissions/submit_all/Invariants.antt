@@ -4,4 +4,4 @@ use Rattle.play_actor.specs.Submitting.{AreSubmitted}
 use Rattle.play_actor.proofs.submissions.submit_all.Given as goal
 
 abbrev pub invariant-loop-edit : goal.invariant-loop-edit
-invariant-loop-edit l = AreSubmitted l.room l.next l.fn.pending (take l.edit-index l.edits) l.pending (dues_of l.dues.items)
+invariant-loop-edit l = AreSubmitted l.fn.active (take l.edit-index l.edits) l.active (dues_of l.dues.items)

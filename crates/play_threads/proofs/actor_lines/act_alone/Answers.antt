@@ -1,9 +1,21 @@
-use Rattle.std.proofs.Common.{map, ap, subst, ◌≡◌, ◌∙◌}
+use Rattle.std.proofs.Common.{map, ap, sym, subst, arith, ◌≡◌, ◌∙◌}
 use Rattle.play_model.specs.Lines.{actions_of, line_of}
-use Rattle.play_model.specs.Actions.{has_names, kept_by}
+use Rattle.play_model.specs.Actions.{has_names, kept_by, new_actor_view}
 use Rattle.play_threads.specs.Threads.{HasDone}
 use Rattle.play_threads.proofs.ActorLaws.{done_follows, new_named}
 use Rattle.play_threads.proofs.actor_lines.act_alone.Goals as goal
+
+pub new-requires : goal.new-requires
+new-requires g c =
+    let same : c.nodes.result ≡ (g.S.Seats.log c.args.seats.now).nodes = c.nodes.ensures ∙ g.met.S.Seats.nodes_are c.args.seats.now in
+    omega (arith, same, c.requires.some)
+
+pub act-requires-clause-new : goal.act-requires-clause-new
+act-requires-clause-new g c =
+    let nodes = (g.S.Seats.log c.args.seats.now).nodes in
+    let same : c.nodes.result ≡ nodes = c.nodes.ensures ∙ g.met.S.Seats.nodes_are c.args.seats.now in
+    let named : has_names (g.A.Actor.seen c.in_ok-by.by) ≡ c.args.named = ap has_names c.in_ok-by.ensures ∙ new_named c.args.named c.nodes.result in
+    c.in_ok-by.ensures ∙ ap (λ n. new_actor_view c.args.named n) same ∙ ap (λ b. new_actor_view b nodes) (sym named)
 
 pub returns-clause-follows : goal.returns-clause-follows
 returns-clause-follows g c =

@@ -1,8 +1,8 @@
 use Rattle.qj_cli.proofs.ReportLaws.{comes}
 use Rattle.qj_cli.proofs.plays.play_soundly.Goals as goal
 
-pub returns : goal.returns
-returns c =
+pub returns-clause-comes : goal.returns-clause-comes
+returns-clause-comes c =
     comes c.args.script.now c.in_ok-left.left.played.mesh c.in_ok-left.left.played.ends (c.scripts_are_playable.ensures.lines c.args.script.now c.requires) c.in_ok-left.ensures.played
     c.a_play_agrees.ensures.script c.a_play_follows.ensures.script (record {
       run = c.epoch_order_is_a_run.ensures;

@@ -24,3 +24,10 @@ play_generated-requires g c = subst (λ x. IsAllowed (asked_in x)) c.in-Gen.is c
 
 pub list_file-status-requires : goal.list_file-status-requires
 list_file-status-requires g c = subst (λ x. IsAllowed (asked_in x)) c.in-Listing.is c.requires
+
+pub returns-in-Mirror-clause-done : goal.returns-in-Mirror-clause-done
+returns-in-Mirror-clause-done g c =
+    does_as c.args.command command.Mirror (read_from g.S.Source.left g.S.Source.faults c.args.source.now c.mirror_script.new.source)
+    (written_to g.K.Sink.taken g.K.Sink.faults g.K.Sink.kept_back c.args.sink.now c.mirror_script.new.sink)
+    (done_to g.D.DiskModel.tells g.D.DiskModel.view g.D.DiskModel.faults g.D.DiskModel.steady g.D.DiskModel.left c.args.disk c.args.disk)
+    c.mirror_script.result c.in-Mirror.is (c.mirror_script.ensures, refl)

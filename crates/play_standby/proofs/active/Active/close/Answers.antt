@@ -1,6 +1,6 @@
 use Rattle.std.proofs.Common.{◌≡◌, ◌∙◌, ap, sym, []}
 use Rattle.play_standby.specs.Actives.{ActiveView, is_open}
-use Rattle.play_standby.proofs.ActiveLaws.{close_inactive}
+use Rattle.play_standby.proofs.ActiveLaws.{close_inactive, idle_by}
 use Rattle.play_standby.proofs.RoundLaws.{close_kept}
 use Rattle.play_standby.proofs.active.Active.close.Goals as goal
 
@@ -19,16 +19,5 @@ invariant_of-self g c =
 
 pub returns-in-NotActive-clause-closed : goal.returns-in-NotActive-clause-closed
 returns-in-NotActive-clause-closed g c =
-    let refused = c.in-NotActive.ensures.came in (
-      ap is_open (sym c.self.view_is) ∙ close_inactive c.self.inside.writer refused.refused,
-      record {
-        same = (λ i. record {
-          writer = refused.same i;
-          position = c.self.inside.position;
-          ahead = c.self.inside.pending.ahead;
-          bodies = c.self.inside.pending.bodies;
-          whole = c.self.inside.whole;
-        }) ∙ c.self.view_is;
-        none = refused.none;
-      },
-    )
+    let refused = c.in-NotActive.ensures.came in
+    (ap is_open (sym c.self.view_is) ∙ close_inactive c.self.inside.writer refused.refused, idle_by _ _ _ _ _ c.self.view_is refused.same refused.none)

@@ -1,10 +1,10 @@
-use Rattle.std.proofs.Common.{◌≡◌, ◌∙◌, ap, sym, subst, true, List, ℕ, None, ◌==◌, length}
+use Rattle.std.proofs.Common.{◌≡◌, ◌∙◌, ap, sym, subst, true, [], None}
+use Rattle.std.specs.Prelude.{◌≢◌}
 use Rattle.ns_tree.specs.Space.{Space}
 use Rattle.writer_core.specs.Writer.{log_limit}
 use Rattle.play_standby.specs.Pendings.{PendingView, none_pending}
 use Rattle.play_standby.specs.Actives.{ActiveView, IsActive, is_open}
 use Rattle.play_standby.proofs.RoundLaws.{log_kept, log_began}
-use Rattle.writer_calls.proofs.TaskBegins.{not_empty}
 use Rattle.play_standby.proofs.active.Active.log_pending.Goals as goal
 
 pub invariant_of-self : goal.invariant_of-self
@@ -37,7 +37,7 @@ unreachable-requires g c =
       whole = c.self.inside.whole;
     } in
     let opens : is_open a ≡ true = ap is_open c.self.view_is ∙ c.requires.open in
-    let empty : c.is_empty.result ≡ (length a.bodies == 0) = c.is_empty.ensures ∙ ap (λ (l : List (List ℕ)). length l == 0) c.bodies.ensures in
+    let some : a.bodies ≢ [] = subst (λ (v : ActiveView). v.bodies ≢ []) (sym c.self.view_is) c.requires.some in
     let fits : log_limit a.writer c.take_bodies-bodies.result ≡ None =
-    ap (log_limit a.writer) c.take_bodies-bodies.ensures.bodies ∙ (c.self.invariant.0.opened opens).fits (not_empty a.bodies c.is_empty.result empty c.if-is_empty.false) in
+    ap (log_limit a.writer) c.take_bodies-bodies.ensures.bodies ∙ (c.self.invariant.0.opened opens).fits some in
     log_began a.writer c.log.new.self c.take_bodies-bodies.result (g.P.Peers.calls c.args.peers.now) (g.P.Peers.calls c.log.new.peers) c.log.result opens fits c.log.ensures.came c.in-NotActive.is

@@ -1,6 +1,6 @@
 use Rattle.std.proofs.Common.{◌≡◌, ◌∙◌, ap, sym, []}
 use Rattle.play_standby.specs.Actives.{ActiveView, is_open}
-use Rattle.play_standby.proofs.ActiveLaws.{purge_inactive}
+use Rattle.play_standby.proofs.ActiveLaws.{purge_inactive, idle_by}
 use Rattle.play_standby.proofs.RoundLaws.{purge_kept}
 use Rattle.play_standby.proofs.active.Active.purge.Goals as goal
 
@@ -19,16 +19,5 @@ invariant_of-self g c =
 
 pub returns-in-NotActive-clause-purging : goal.returns-in-NotActive-clause-purging
 returns-in-NotActive-clause-purging g c =
-    let refused = c.in-NotActive.ensures.came in (
-      ap is_open (sym c.self.view_is) ∙ purge_inactive c.self.inside.writer c.args.min refused.refused,
-      record {
-        same = (λ i. record {
-          writer = refused.same i;
-          position = c.self.inside.position;
-          ahead = c.self.inside.pending.ahead;
-          bodies = c.self.inside.pending.bodies;
-          whole = c.self.inside.whole;
-        }) ∙ c.self.view_is;
-        none = refused.none;
-      },
-    )
+    let refused = c.in-NotActive.ensures.came in
+    (ap is_open (sym c.self.view_is) ∙ purge_inactive c.self.inside.writer c.args.min refused.refused, idle_by _ _ _ _ _ c.self.view_is refused.same refused.none)

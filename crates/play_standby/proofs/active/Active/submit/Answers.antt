@@ -15,8 +15,8 @@ returns-clause-submitted c =
       whole = c.self.inside.whole;
     } in
     let opens : is_open a ≡ true = c.self.invariant.1 ∙ c.if-not-self.false in
-    subst (λ (v : ActiveView). IsSubmitted v c.args.edit (pending_as a c.submit.new.self) c.submit.result) c.self.view_is
-    (pended_submits a c.args.edit c.submit.new.self c.submit.result (c.submit.ensures.submitted a.writer (pends_at a opens c.self.invariant.0 c.room-room.result c.room-room.ensures)))
+    subst (λ (v : ActiveView). IsSubmitted v c.args.edit.now (pending_as a c.submit.new.self) c.submit.result) c.self.view_is
+    (pended_submits a c.args.edit.now c.submit.new.self c.submit.result opens (c.submit.ensures.submitted a.writer (pends_at a opens c.self.invariant.0 c.room-room.result c.room-room.ensures)))
 
 pub returns-clause-memory : goal.returns-clause-memory
-returns-clause-memory c = λ e. subst (λ (v : ActiveView). admit_of v.ahead c.args.edit ≡ None) c.self.view_is (c.submit.ensures.memory e)
+returns-clause-memory c = λ e. subst (λ (v : ActiveView). admit_of v.ahead c.args.edit.now ≡ None) c.self.view_is (c.submit.ensures.memory e)

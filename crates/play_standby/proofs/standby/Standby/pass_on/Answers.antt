@@ -7,4 +7,5 @@ loop-alloc-init g c = (
   passes_begin (g.P.Peers.nodes c.args.peers.now) c.args.until (g.P.Peers.calls c.args.peers.now) c.new-told.result.items c.args.self.now c.begin_pass-step.result c.requires.some
       c.new-told.ensures.items c.begin_pass-step.ensures.going c.begin_pass-step.ensures.step,
   refl,
+  g.met.P.Peers.called_none c.args.peers.now,
 )

@@ -1,0 +1,11 @@
+pub mod CallLists
+pub mod Heard
+pub mod Holding
+pub mod Taking
+pub mod Passing
+pub mod SyncLaws
+pub mod Manifests
+pub mod Steady
+pub mod SteadyPass
+pub mod HoldLaws
+pub mod SteadyLaws

@@ -1,0 +1,10 @@
+pub mod Told
+pub mod Fetching
+pub mod Logs
+pub mod Mirrors
+pub mod Passing
+pub mod HeldOrMissing
+pub mod Directs
+pub mod DirectLaws
+pub mod States
+pub mod Examples
