@@ -142,6 +142,24 @@ def name_nodes(takeovers, seed=7):
     return '\n'.join(lines + [f'tail {standby}']) + '\n'
 
 
+def in_lines(actor, edits, rolls=16_000):
+    """Logs of 250 edits a line, with a roll at each so many-th."""
+    lines = []
+    for at in range(0, len(edits), 250):
+        if at and at % rolls == 0:
+            lines.append(f'roll {actor}')
+        lines.append(f'log {actor} ' + ' ; '.join(edits[at:at + 250]))
+    return lines
+
+
+def saved_and_changed():
+    """A name node saves an image of 36,000 directories and logs 10,000 edits after it, about as many as a script can say."""
+    paths = [path for top in range(360) for path in [f'/{top}', *(f'/{top}/{number}' for number in range(99))]]
+    lines = ['names 1', 'name a', 'takeover a', *in_lines('a', [f'mkdir {path} 1 0 u g' for path in paths]), 'close a', 'checkpoint a']
+    lines += ['takeover a', *in_lines('a', [f'chmod {path} 1' for path in paths[-10_000:]]), 'close a']
+    return '\n'.join(lines) + '\n'
+
+
 # ## Segments, images and folders
 
 def bodies_of(edits):
@@ -243,6 +261,7 @@ def make_all(folder):
         'few1': lambda: few_lines(1),
         'names': lambda: name_nodes(False),
         'takeovers': lambda: name_nodes(True),
+        'booted': saved_and_changed,
         'session': lambda: session(10_000),
         'session_long': lambda: session(160_000, 10),
         'session_reads': lambda: session(10_000, 1, 20),

@@ -29,6 +29,9 @@ show_rules() {
     "docs/MODEL.md"
   look_up refusals '' 4 whole
   echo
+  echo "A line of a report breaks rule"
+  look_up "rules of judge"
+  echo
   echo "A file of a folder has the finding (V1 and V2 are the two numbers of its line)"
   look_up "rules of fsck" '' 22
   echo
@@ -48,13 +51,13 @@ show_line() {
 }
 
 # Writes the fault line of this run where it tells more than the status. Where it wasn't kept the program is asked once more, and
-# changes nothing: a refused folder stays as it is. It is the last that a process of the launcher's own does, which becomes the
-# program.
+# changes nothing: a refused folder stays as it is. A report that came through a pipe is gone, so nothing is asked of it. It is the
+# last that a process of the launcher's own does, which becomes the program.
 # shellcheck disable=SC2086
 find_fault() {
   if [ -n "$output" ]; then
     cat "$output"
-  elif [ "$status" -gt 4 ]; then
+  elif [ "$status" -gt 4 ] || { [ "$1" = judge ] && [ -z "$again" ]; }; then
     return
   elif [ "$*" != node ]; then
     open_input_again
@@ -86,15 +89,16 @@ tell_cause() {
   LC_ALL=C awk -v line="$1" -v rule="$2" -v kind="$3" -v lacks_end="${4-}" -f "$top/launcher/line.awk" <"$again"
 }
 
-# Says what is wrong with a line: the one cause where it is seen, else all that breaks the rule.
+# Says what is wrong with a line: the one cause where it is seen, else all that breaks the rule, as of each line of a report.
 explain_line() {
-  cause=$(tell_cause "$1" "$2" "$command")
+  cause=''
+  [ "$command" = judge ] || cause=$(tell_cause "$1" "$2" "$command")
   if [ -n "$cause" ]; then
     printf '%s\n' "line $1, $cause (rule $2)" | say_lines
   else
-    look_up "rules of $([ "$command" = node ] && echo node || echo play)" "$2" | sed "s/^/line $1 breaks rule $2: /" | say_lines
+    look_up "rules of $(is_among "$command" 'node judge' && echo "$command" || echo play)" "$2" | sed "s/^/line $1 breaks rule $2: /" | say_lines
   fi
-  show_line "$1"
+  [ -z "$again" ] || show_line "$1"
 }
 
 # Says what may be wrong with a request line that isn't seen here: all rules, and what a request looks like.
@@ -213,7 +217,7 @@ explain_refusal() {
 # Says what the parts of a fault line mean: its line and rule, or its limit.
 explain_fault() {
   case ${2-} in
-    BadScript) explain_line "$3" "$4" ;;
+    BadScript | BadReport) explain_line "$3" "$4" ;;
     Limit) look_up limits "$3" | say_lines ;;
     '') [ "$status$command" != 2node ] || explain_requests ;;
   esac
@@ -238,12 +242,14 @@ explain() {
   case $fault in
     error\ BadBytes\ *) explain_bad_file $fault ;;
     *)
-      cell statuses "$status" 1 | say_lines
+      meaning=$status
+      [ "$status$command" != 5judge ] || meaning='5, judge'
+      cell statuses "$meaning" 1 | say_lines
       explain_fault $fault
       tell_reason "$@"
       # (a listing or a check keeps nothing, and is just begun again; where the folder is gone all is)
       [ "$status" -ne 8 ] || { [ "$command" = node ] && ! is_removed; } || return 0
-      cell statuses "$status" 2 | say_lines
+      cell statuses "$meaning" 2 | say_lines
       ;;
   esac
 }

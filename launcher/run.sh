@@ -10,12 +10,13 @@ again='' output=''
 # Opens what the program is to read as descriptor 3. A script that stands in no file is kept in one first.
 open_input() {
   case $1 in
-    play | run | mirror | node) exec 3<&0 ;;
+    play | run | mirror | boot | node) exec 3<&0 ;;
+    play | run | mirror | node | judge) exec 3<&0 ;;
     *) exec 3</dev/null; return ;;
   esac
   if is_input_a_file; then
     again=/dev/fd/3
-  elif [ "$1" != node ] && [ ! -d /dev/stdin ]; then
+  elif ! is_among "$1" 'node judge' && [ ! -d /dev/stdin ]; then
     keep_input
   fi
 }
@@ -113,7 +114,10 @@ refuse_unbuilt() {
 
 # Runs the program's command, explains a status that isn't 0, and ends with the status.
 run_or_try() {
-  case $1 in play | run | mirror) greet_terminal 'a script' ;; esac
+  case $1 in
+    play | run | mirror | boot) greet_terminal 'a script' ;;
+    judge) greet_terminal 'a report' ;;
+  esac
   open_input "${1-}"
   if is_proved; then
     run_program "$@"

@@ -43,7 +43,7 @@ list_known_lines() {
     /^\| / { input = input substr($0, 3) "\n" }
     /^- / { input = input substr($0, 3) }
     /^(x|lines|times|script|again|file) / { is_plain = 0 }
-    /^$/ && is_plain && command ~ /^(play|run|mirror|node)$/ && (name in bad) {
+    /^$/ && is_plain && command ~ /^(play|run|mirror|boot|node)$/ && (name in bad) {
       file = folder "/" ++count
       printf "%s", input >file
       close(file)

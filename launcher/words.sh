@@ -1,7 +1,7 @@
 # The words after ./qjm: which of them are a command's, and the help of each.
 
 # The program's commands, and those that the launcher answers itself.
-readonly PROGRAM_COMMANDS='play run mirror gen node oev oiv fsck' OWN_COMMANDS='draw rules test help'
+readonly PROGRAM_COMMANDS='play run mirror boot gen node oev oiv fsck judge' OWN_COMMANDS='draw rules test help'
 readonly SEGMENT_LISTINGS='list stats json' IMAGE_LISTINGS='delimited sizes json'
 
 # The greatest number that a word may be.
@@ -60,7 +60,7 @@ place_in_gen() {
 # where the words are a command. The program's own rule is the same, and waits for no quick run here.
 wrong_place() {
   case ${1-},${2-} in
-    play,* | run,* | mirror,* | node,* | fsck,*) [ $# -eq 1 ] || echo 1 ;;
+    play,* | run,* | mirror,* | boot,* | node,* | fsck,* | judge,*) [ $# -eq 1 ] || echo 1 ;;
     oev,back) place_in_back "$@" ;;
     oev,*) place_in_listing "$SEGMENT_LISTINGS" "$@" ;;
     oiv,*) place_in_listing "$IMAGE_LISTINGS" "$@" ;;
@@ -75,8 +75,9 @@ legal_words() {
     0* | 1help,*) echo "the commands are $PROGRAM_COMMANDS $OWN_COMMANDS" ;;
     1node,*) echo 'after `node` comes nothing, or `--unchecked` alone; to serve another folder go there (cd), then `node`' ;;
     1fsck,*) echo 'after `fsck` comes nothing; to check another folder go there (cd), then `fsck`' ;;
+    1judge,*) echo 'after `judge` comes nothing; the report is the standard input: `./qjm judge < FILE`' ;;
     ?draw,*) echo 'after `draw` come --svg, --whole and a title; the report is the standard input: `./qjm draw < FILE`' ;;
-    1play,* | 1run,* | 1mirror,*) echo "after \`$2\` comes nothing, or the name of one file" ;;
+    1play,* | 1run,* | 1mirror,* | 1boot,*) echo "after \`$2\` comes nothing, or the name of one file" ;;
     1oev,*) echo "after \`oev\` comes one of $SEGMENT_LISTINGS back" ;;
     1oiv,*) echo "after \`oiv\` comes one of $IMAGE_LISTINGS" ;;
     2oev,back) echo "the name of a listing comes next, then START and EPOCH" ;;
@@ -120,7 +121,7 @@ show_way() {
 
 # Whether a command reads a script.
 reads_script() {
-  is_among "$1" 'play run mirror'
+  is_among "$1" 'play run mirror boot'
 }
 
 # Shows the text of a command, or the whole one.

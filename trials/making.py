@@ -629,7 +629,7 @@ def bad_lines(r):
 
 def bad_words(r):
     """Words that make a command, or nearly."""
-    known = ['play', 'run', 'mirror', 'node', 'fsck', 'oev', 'oiv', 'gen', 'list', 'stats', 'json', 'back', 'delimited', 'sizes', 's', 'none', '', '.', '1', '3', '15', '16', '0', '01', '4611686018427387905', '10001', b'\xff', 'x/y', 's/y']
+    known = ['play', 'run', 'mirror', 'boot', 'node', 'fsck', 'oev', 'oiv', 'gen', 'list', 'stats', 'json', 'back', 'delimited', 'sizes', 's', 'none', '', '.', '1', '3', '15', '16', '0', '01', '4611686018427387905', '10001', b'\xff', 'x/y', 's/y']
     words = [r.choice(known) for _ in range(r.randint(0, 4))]
     if r.random() < .6:
         words = r.choice([['oev', 'list'], ['oev', 'stats'], ['oev', 'back', 's'], ['oev', 'back', 's', '1'], ['oiv', 'json'], ['gen', str(r.randrange(9)), str(r.choice([0, 1, 40])), str(r.randint(1, 16))], ['play'], ['node']]) + words[:2]
@@ -647,6 +647,7 @@ KINDS = {
     'names': lambda r: Case([(['play'], script(r, 'names').encode())]),
     'run': lonely,
     'mirror': lambda r: Case([(['mirror'], script(r, r.choice(['raw', 'names'])).encode())]),
+    'boot': lambda r: Case([(['boot'], script(r, 'names' if r.random() < .9 else 'raw').encode())]),
     'gen': generated,
     'node': sessions,
     'segment': segments,

@@ -136,6 +136,14 @@ impl Cluster {
         }
     }
 
+    /// The edits of a node from a txid on. It's no call of the play: a stop that the node holds stays.
+    pub fn read(&mut self, node: usize, from: u64) -> Option<Reply> {
+        match &mut self.seats[node].state {
+            State::Up(node) => node.answer(&Request::Read(from)).ok(),
+            State::Down(_) => Some(Reply::Refused(Refusal::bare(Reason::Down))),
+        }
+    }
+
     /// How many nodes are a majority. MODEL.md, "The parts".
     pub fn majority(&self) -> usize {
         self.seats.len() / 2 + 1

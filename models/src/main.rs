@@ -4,6 +4,7 @@
 
 mod back;
 mod batch;
+mod boot;
 mod caller;
 mod cluster;
 mod disk;
@@ -75,7 +76,7 @@ fn usage_before_bad_text(plain: &[&str]) -> Ending {
 /// The words of a command, or the place of the first word at which they stop being a prefix of one.
 fn shape(words: &[&str]) -> Result<(), usize> {
     let second: &[&str] = match words.first().copied() {
-        Some("play" | "run" | "mirror" | "node" | "fsck") => return exact(words, 1),
+        Some("play" | "run" | "mirror" | "boot" | "node" | "fsck" | "judge") => return exact(words, 1),
         Some("gen") => return shape_with_numbers(words, 1, &OF_GEN),
         Some("oev") if words.get(1) == Some(&"back") => return shape_with_numbers(words, 3, &OF_BACK),
         Some("oev") => &["list", "stats", "json"],
@@ -121,6 +122,7 @@ fn run(words: &[&str]) -> Ending {
         // `run` is played too: what it prints where one actor's lines don't fall among another's.
         ["play" | "run"] => with_script(play),
         ["mirror"] => with_script(mirror),
+        ["boot"] => with_script(boot),
         ["node"] => serve::serve(),
         ["fsck"] => match fsck::check() {
             Ok((text, 0)) => Ending::Ok(text),
@@ -159,6 +161,14 @@ fn play(script: &[u8]) -> Result<Ending, BadLine> {
 /// Plays a script, for what a mirror of its nodes holds then.
 fn mirror(script: &[u8]) -> Result<Ending, BadLine> {
     play::mirror_script(script).map(Ending::Ok)
+}
+
+/// Plays a script with names, for what a fresh standby comes to over its nodes then.
+fn boot(script: &[u8]) -> Result<Ending, BadLine> {
+    Ok(match play::boot_script(script)? {
+        Some(text) => Ending::Ok(text),
+        None => Ending::Limit(play::LONGEST_REPORT as u64),
+    })
 }
 
 /// Lists a file of the current folder.

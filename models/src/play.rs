@@ -1,6 +1,7 @@
 //! A play: the lines of a script taken in order, and its report. FORMATS.md, "Scripts" and "The report".
 
 use crate::batch::Batch;
+use crate::boot;
 use crate::caller::{all_before, before_call, node_digits, push_causes, Caller};
 use crate::cluster::Cluster;
 use crate::edit::Record;
@@ -66,6 +67,19 @@ pub fn mirror_script(bytes: &[u8]) -> Result<Vec<u8>, BadLine> {
         play.take(line?);
     }
     Ok(mirror::tell_pass(&play.cluster))
+}
+
+/// Plays a whole script with names, and tells what a fresh standby comes to over its nodes, from the images of the first actor. Lists
+/// are kept where copies want them. A text that is longer than a report may be is none.
+pub fn boot_script(bytes: &[u8]) -> Result<Option<Vec<u8>>, BadLine> {
+    let keeps = has_copies(bytes);
+    let mut play = Play::new(keeps, keeps);
+    for line in Script::with_names(bytes) {
+        play.take(line?);
+    }
+    let donor = play.actors.into_iter().next().and_then(|actor| actor.standby);
+    let text = boot::tell_boot(&mut play.cluster, donor);
+    Ok((text.len() <= LONGEST_REPORT).then_some(text))
 }
 
 /// Plays a whole script. A script that breaks a rule is told as that; a report that is too long is none.

@@ -53,13 +53,20 @@ pub struct Script<'a> {
     line: u64,
     nodes: usize,
     with_names: bool,
+    /// Whether `raw N` breaks rule 1.
+    names_alone: bool,
     actors: Vec<&'a [u8]>,
 }
 
 impl<'a> Script<'a> {
     /// A script of these bytes, of which nothing is read yet.
     pub fn new(bytes: &'a [u8]) -> Script<'a> {
-        Script { rest: bytes, line: 0, nodes: 0, with_names: false, actors: Vec::new() }
+        Script { rest: bytes, line: 0, nodes: 0, with_names: false, names_alone: false, actors: Vec::new() }
+    }
+
+    /// A script of these bytes that has to have names.
+    pub fn with_names(bytes: &'a [u8]) -> Script<'a> {
+        Script { names_alone: true, ..Script::new(bytes) }
     }
 
     /// The next line that says something.
@@ -88,7 +95,7 @@ impl<'a> Script<'a> {
     /// Rule 1: the first line that says something is `raw N` or `names N`.
     fn read_first(&mut self, line: &[u8]) -> Result<Line<'a>, Rule> {
         let (with_names, number) = match (line.strip_prefix(b"raw "), line.strip_prefix(b"names ")) {
-            (Some(number), _) => (false, number),
+            (Some(number), _) if !self.names_alone => (false, number),
             (_, Some(number)) => (true, number),
             _ => return Err(1),
         };

@@ -71,14 +71,27 @@ impl Standby {
         self.images.first().map(|image| (image.txid + 1).saturating_sub(extra).max(1))
     }
 
+    /// Begins again from the newest image, or empty at 0; the image's txid.
+    pub fn reload_newest(&mut self) -> Option<u64> {
+        self.reload();
+        self.images.last().map(|image| image.txid)
+    }
+
     /// Reads the log from the nodes and applies it, to its end or up to a txid.
     pub fn tail(&mut self, net: &mut Net, until: Option<u64>) -> Tailed {
-        let mut causes = Vec::new();
-        while until != Some(self.position) && causes.len() < net.cluster.count() {
-            let request = Request::Read(self.position + 1);
+        let majority = if until.is_none() { net.cluster.majority() } else { usize::MAX };
+        self.read_log(net.cluster.count(), majority, until, |node, from| {
+            let request = Request::Read(from);
             net.caller.prepare(net.cluster, &request);
-            let node = causes.len();
-            match net.caller.ask(net.cluster, node, &request) {
+            net.caller.ask(net.cluster, node, &request)
+        })
+    }
+
+    /// Reads the log by this way to ask a node for the edits from a txid on, until so many nodes say that they have nothing later.
+    pub fn read_log(&mut self, nodes: usize, majority: usize, until: Option<u64>, mut read: impl FnMut(usize, u64) -> Option<Reply>) -> Tailed {
+        let mut causes = Vec::new();
+        while until != Some(self.position) && causes.len() < nodes {
+            match read(causes.len(), self.position + 1) {
                 Some(Reply::Edits(edits)) => {
                     self.apply(&edits.entries);
                     causes.clear();
@@ -89,7 +102,7 @@ impl Standby {
         }
         match until {
             Some(end) if end == self.position => Tailed::CaughtUp,
-            _ => judge_tail(causes, if until.is_none() { net.cluster.majority() } else { usize::MAX }),
+            _ => judge_tail(causes, majority),
         }
     }
 
@@ -108,6 +121,15 @@ impl Standby {
         let mut text = b"position ".to_vec();
         push_number(&mut text, self.position);
         text.push(b'\n');
+        self.push_rows(text)
+    }
+
+    /// A row for each inode alone.
+    pub fn row_lines(&self) -> Vec<u8> {
+        self.push_rows(Vec::new())
+    }
+
+    fn push_rows(&self, text: Vec<u8>) -> Vec<u8> {
         let mut walk = RowWalk { owners: &self.space.owners, text, path: Vec::new() };
         walk.push_directory(&self.space.root);
         walk.text

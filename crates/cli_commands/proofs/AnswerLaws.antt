@@ -18,6 +18,7 @@ use Rattle.cli_commands.proofs.ToldLaws.{told_status}
 fault_back : (of : CommandFault) → disk_answer (status_of of) ≡ Err fail.Failed → of ≡ fault.DiskFault
 fault_back (fault.Usage place) e = absurd (cc e)
 fault_back (fault.BadScript line rule) e = absurd (cc e)
+fault_back (fault.BadReport line rule) e = absurd (cc e)
 fault_back fault.NoFile e = absurd (cc e)
 fault_back (fault.BadBytes place cause) e = absurd (cc e)
 fault_back (fault.BadImage place cause) e = absurd (cc e)
@@ -50,6 +51,7 @@ answered_back {T} items (Err of) s sink wrote tells e =
 fault_told : (T : Type 0) (of : CommandFault) (s : Status) (sink : SinkUse) → TellsFault of s sink → answer_of {T = T} (Err of) ≡ Err fail.Failed → disk_answer s ≡ Err fail.Failed
 fault_told T (fault.Usage place) s sink tells e = absurd (cc e)
 fault_told T (fault.BadScript line rule) s sink tells e = absurd (cc e)
+fault_told T (fault.BadReport line rule) s sink tells e = absurd (cc e)
 fault_told T fault.NoFile s sink tells e = absurd (cc e)
 fault_told T (fault.BadBytes place cause) s sink tells e = absurd (cc e)
 fault_told T (fault.BadImage place cause) s sink tells e = absurd (cc e)

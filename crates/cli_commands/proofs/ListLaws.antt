@@ -51,6 +51,7 @@ module _ {D : Type 0} (name : List ℕ) (disk : DiskUse D) (calls : HasCalls dis
   bytes_fault : (bytes : List ℕ) (why : CommandFault) → (disk.tells disk.before → file_under disk name ≡ Some bytes) → IsReadFault of bytes why → IsListFault of name disk why
   bytes_fault bytes (fault.Usage place) is so = absurd so
   bytes_fault bytes (fault.BadScript line rule) is so = absurd so
+  bytes_fault bytes (fault.BadReport line rule) is so = absurd so
   bytes_fault bytes fault.NoFile is so = absurd so
   bytes_fault bytes (fault.BadBytes place cause) is so = record { file = Some bytes; same = λ t. sym (is t); calls = calls; so = so }
   bytes_fault bytes (fault.BadImage place cause) is so = record { file = Some bytes; same = λ t. sym (is t); calls = calls; so = so }

@@ -49,6 +49,7 @@ data IsSegmentDamage (bytes : List ℕ) (why : CommandFault) : Type 0 where
 segment_damage : (of : SegmentTool) (bytes : List ℕ) (why : CommandFault) → IsBytesFault (tool.Oev of) bytes why → IsSegmentDamage bytes why
 segment_damage of bytes (fault.Usage place) is = absurd is
 segment_damage of bytes (fault.BadScript line rule) is = absurd is
+segment_damage of bytes (fault.BadReport line rule) is = absurd is
 segment_damage of bytes fault.NoFile is = absurd is
 segment_damage of bytes (fault.BadBytes place cause) is = damaged place cause refl is.1
 segment_damage of bytes (fault.BadImage place cause) is = absurd is
@@ -73,6 +74,7 @@ data IsImageDamage (bytes : List ℕ) (why : CommandFault) : Type 0 where
 image_damage : (of : ImageTool) (bytes : List ℕ) (why : CommandFault) → IsBytesFault (tool.Oiv of) bytes why → IsImageDamage bytes why
 image_damage of bytes (fault.Usage place) is = absurd is
 image_damage of bytes (fault.BadScript line rule) is = absurd is
+image_damage of bytes (fault.BadReport line rule) is = absurd is
 image_damage of bytes fault.NoFile is = absurd is
 image_damage of bytes (fault.BadBytes place cause) is = absurd is
 image_damage of bytes (fault.BadImage place cause) is = misread place cause is.0 refl is.1 is.2
@@ -101,6 +103,7 @@ data IsListingFault (start : ℕ) (bytes : List ℕ) (why : CommandFault) : Type
 listing_fault : (start epoch : ℕ) (bytes : List ℕ) (why : CommandFault) → IsBytesFault (tool.Back start epoch) bytes why → IsListingFault start bytes why
 listing_fault start epoch bytes (fault.Usage place) is = absurd is
 listing_fault start epoch bytes (fault.BadScript line rule) is = absurd is
+listing_fault start epoch bytes (fault.BadReport line rule) is = absurd is
 listing_fault start epoch bytes fault.NoFile is = absurd is
 listing_fault start epoch bytes (fault.BadBytes place cause) is = absurd is
 listing_fault start epoch bytes (fault.BadImage place cause) is = absurd is
@@ -141,6 +144,7 @@ has_damage of (Some bytes) why is = broken bytes refl is.1
 one_of : (of : Tool) (file : Option (List ℕ)) (why : CommandFault) → IsFileFault of file why → IsOne of file why
 one_of of file (fault.Usage place) is = absurd is
 one_of of file (fault.BadScript line rule) is = absurd is
+one_of of file (fault.BadReport line rule) is = absurd is
 one_of of file fault.NoFile is = absent is refl
 one_of of file (fault.BadBytes place cause) is = has_damage of file (fault.BadBytes place cause) is
 one_of of file (fault.BadImage place cause) is = has_damage of file (fault.BadImage place cause) is
@@ -169,6 +173,7 @@ one_fault_of_file of file a b p q = same_fault of file a b (one_of of file a p) 
 segment_undamaged : (of : SegmentTool) (bytes text : List ℕ) (why : CommandFault) → IsTold (told_by of) bytes text → IsBytesFault (tool.Oev of) bytes why → ⊥
 segment_undamaged of bytes text (fault.Usage place) p q = q
 segment_undamaged of bytes text (fault.BadScript line rule) p q = q
+segment_undamaged of bytes text (fault.BadReport line rule) p q = q
 segment_undamaged of bytes text fault.NoFile p q = q
 segment_undamaged of bytes text (fault.BadBytes place cause) p q = q.0 (p.start, p.edits, p.segment)
 segment_undamaged of bytes text (fault.BadImage place cause) p q = q

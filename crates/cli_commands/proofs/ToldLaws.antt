@@ -23,6 +23,7 @@ tells_memory of line s sink bad e l wrote = record { told = fault.OutOfMemory; t
 pub bad_file_is : (of : CommandFault) → IsBadFile of → (name : List ℕ) × (of ≡ fault.BadFile name)
 bad_file_is (fault.Usage place) is = absurd is
 bad_file_is (fault.BadScript line rule) is = absurd is
+bad_file_is (fault.BadReport line rule) is = absurd is
 bad_file_is fault.NoFile is = absurd is
 bad_file_is (fault.BadBytes place cause) is = absurd is
 bad_file_is (fault.BadImage place cause) is = absurd is

@@ -16,7 +16,7 @@ use Rattle.cli_commands.specs.declared.tool.ImageTool.{ImageTool}
 use Rattle.cli_commands.specs.declared.tool.ImageTool.TheVariants as image
 use Rattle.cli_commands.specs.declared.tool.Tool.{Tool}
 use Rattle.cli_commands.specs.declared.tool.Tool.TheVariants as tool
-use Rattle.cli_commands.specs.Commands.{Asked, play, run, mirror, node, fsck, gen, list, segment_word, image_word, words_of, AreOfSegment, IsAllowed, AskFor, IsCommand}
+use Rattle.cli_commands.specs.Commands.{Asked, play, run, mirror, boot, node, fsck, judge, gen, list, segment_word, image_word, words_of, AreOfSegment, IsAllowed, AskFor, IsCommand}
 use Rattle.cli_commands.specs.Usage.{is_alone, is_oev, is_oiv, after_one, after_tool, after_program, after_epoch, behind_start, behind_name, after_back, after_oev}
 use Rattle.cli_commands.specs.Usage.{after_number, behind_edits, after_nodes, after_gen, usage_of}
 use Rattle.cli_commands.specs.Words.{StopAt, UsageIsOfFirstWrongWord}
@@ -35,23 +35,24 @@ one_of_three word a b c t = ⊎_elim (λ y. inl ((bytes_eq-Decides word a).0 y))
     (or_cases (bytes_eq word b) (bytes_eq word c) r)))
     (or_cases (bytes_eq word a) (bytes_eq word b || bytes_eq word c) t)
 
+-- a word of this name is a command where that name is one
+this_word : (word name : List ℕ) → IsCommand (name ∷ []) → bytes_eq word name ≡ true → IsCommand (word ∷ [])
+this_word word name is y = subst (λ (w : List ℕ). IsCommand (w ∷ [])) (sym ((bytes_eq-Decides word name).0 y)) is
+
+-- the word is of this name, or one of the rest
+first_or : (word name : List ℕ) (rest : Bool) → IsCommand (name ∷ []) → (rest ≡ true → IsCommand (word ∷ [])) → (bytes_eq word name || rest) ≡ true → IsCommand (word ∷ [])
+first_or word name rest is later t = ⊎_elim (λ y. this_word word name is y) later (or_cases (bytes_eq word name) rest t)
+
 alone_word : (word : List ℕ) → is_alone word ≡ true → IsCommand (word ∷ [])
 alone_word word t =
-    of (or_cases (bytes_eq word (codes "play")) (bytes_eq word (codes "run") || (bytes_eq word (codes "mirror") || (bytes_eq word (codes "node") || bytes_eq word (codes "fsck")))) t)
-  where
-    by : (word ≡ codes "mirror") ⊎ ((word ≡ codes "node") ⊎ (word ≡ codes "fsck")) → IsCommand (word ∷ [])
-    by (inl e) = (mirror, record { words_are = ap (λ (w : List ℕ). w ∷ []) e; allowed = tt })
-    by (inr (inl e)) = (node, record { words_are = ap (λ (w : List ℕ). w ∷ []) e; allowed = tt })
-    by (inr (inr e)) = (fsck, record { words_are = ap (λ (w : List ℕ). w ∷ []) e; allowed = tt })
-
-    later : (bytes_eq word (codes "run") ≡ true) ⊎ ((bytes_eq word (codes "mirror") || (bytes_eq word (codes "node") || bytes_eq word (codes "fsck"))) ≡ true) → IsCommand (word ∷ [])
-    later (inl y) = (run, record { words_are = ap (λ (w : List ℕ). w ∷ []) ((bytes_eq-Decides word (codes "run")).0 y); allowed = tt })
-    later (inr y) = by (one_of_three word (codes "mirror") (codes "node") (codes "fsck") y)
-
-    of : (bytes_eq word (codes "play") ≡ true)
-        ⊎ ((bytes_eq word (codes "run") || (bytes_eq word (codes "mirror") || (bytes_eq word (codes "node") || bytes_eq word (codes "fsck")))) ≡ true) → IsCommand (word ∷ [])
-    of (inl y) = (play, record { words_are = ap (λ (w : List ℕ). w ∷ []) ((bytes_eq-Decides word (codes "play")).0 y); allowed = tt })
-    of (inr y) = later (or_cases (bytes_eq word (codes "run")) (bytes_eq word (codes "mirror") || (bytes_eq word (codes "node") || bytes_eq word (codes "fsck"))) y)
+    first_or word (codes "play") _ (play, record { words_are = refl; allowed = tt })
+    (first_or word (codes "run") _ (run, record { words_are = refl; allowed = tt })
+    (first_or word (codes "mirror") _ (mirror, record { words_are = refl; allowed = tt })
+    (first_or word (codes "boot") _ (boot, record { words_are = refl; allowed = tt })
+    (first_or word (codes "node") _ (node, record { words_are = refl; allowed = tt })
+    (first_or word (codes "fsck") _ (fsck, record { words_are = refl; allowed = tt })
+    (this_word word (codes "judge") (judge, record { words_are = refl; allowed = tt })))))))
+    t
 
 oev_word : (word : List ℕ) → is_oev word ≡ true → (of : SegmentTool) × (word ≡ segment_word of)
 oev_word word t = by (one_of_three word (codes "list") (codes "stats") (codes "json") t)
@@ -96,8 +97,10 @@ no_words : (asked : Asked) → [] ≡ words_of asked → ⊥
 no_words play e = cc e
 no_words run e = cc e
 no_words mirror e = cc e
+no_words boot e = cc e
 no_words node e = cc e
 no_words fsck e = cc e
+no_words judge e = cc e
 no_words (gen number edits nodes) e = cc e
 no_words (list of name) e = cc e
 
@@ -106,8 +109,10 @@ first_word : (word : List ℕ) (words : List (List ℕ)) (asked : Asked) → wor
 first_word word words play e = inl (ap is_alone (heads word (codes "play") words [] e))
 first_word word words run e = inl (ap is_alone (heads word (codes "run") words [] e))
 first_word word words mirror e = inl (ap is_alone (heads word (codes "mirror") words [] e))
+first_word word words boot e = inl (ap is_alone (heads word (codes "boot") words [] e))
 first_word word words node e = inl (ap is_alone (heads word (codes "node") words [] e))
 first_word word words fsck e = inl (ap is_alone (heads word (codes "fsck") words [] e))
+first_word word words judge e = inl (ap is_alone (heads word (codes "judge") words [] e))
 first_word word words (gen number edits nodes) e = inr (inr (inr (heads word (codes "gen") words (decimal number ∷ decimal edits ∷ decimal nodes ∷ []) e)))
 first_word word words (list (tool.Oev of) name) e = inr (inl (heads word (codes "oev") words (segment_word of ∷ name ∷ []) e))
 first_word word words (list (tool.Oiv of) name) e = inr (inr (inl (heads word (codes "oiv") words (image_word of ∷ name ∷ []) e)))
@@ -121,8 +126,10 @@ after_alone : (word : List ℕ) (words : List (List ℕ)) (asked : Asked) → is
 after_alone word words play y e = tails word (codes "play") words [] e
 after_alone word words run y e = tails word (codes "run") words [] e
 after_alone word words mirror y e = tails word (codes "mirror") words [] e
+after_alone word words boot y e = tails word (codes "boot") words [] e
 after_alone word words node y e = tails word (codes "node") words [] e
 after_alone word words fsck y e = tails word (codes "fsck") words [] e
+after_alone word words judge y e = tails word (codes "judge") words [] e
 after_alone word words (gen number edits nodes) y e = absurd (apart word (codes "gen") refl y (heads word (codes "gen") words (decimal number ∷ decimal edits ∷ decimal nodes ∷ []) e))
 after_alone word words (list (tool.Oev of) name) y e = absurd (apart word (codes "oev") refl y (heads word (codes "oev") words (segment_word of ∷ name ∷ []) e))
 after_alone word words (list (tool.Oiv of) name) y e = absurd (apart word (codes "oiv") refl y (heads word (codes "oiv") words (image_word of ∷ name ∷ []) e))
@@ -134,8 +141,10 @@ program_alone : (word : List ℕ) (asked : Asked) → word ∷ [] ≡ words_of a
 program_alone word play e = ap is_alone (heads word (codes "play") [] [] e)
 program_alone word run e = ap is_alone (heads word (codes "run") [] [] e)
 program_alone word mirror e = ap is_alone (heads word (codes "mirror") [] [] e)
+program_alone word boot e = ap is_alone (heads word (codes "boot") [] [] e)
 program_alone word node e = ap is_alone (heads word (codes "node") [] [] e)
 program_alone word fsck e = ap is_alone (heads word (codes "fsck") [] [] e)
+program_alone word judge e = ap is_alone (heads word (codes "judge") [] [] e)
 program_alone word (gen number edits nodes) e = absurd (cc (tails word (codes "gen") [] (decimal number ∷ decimal edits ∷ decimal nodes ∷ []) e))
 program_alone word (list (tool.Oev of) name) e = absurd (cc (tails word (codes "oev") [] (segment_word of ∷ name ∷ []) e))
 program_alone word (list (tool.Oiv of) name) e = absurd (cc (tails word (codes "oiv") [] (image_word of ∷ name ∷ []) e))
@@ -150,8 +159,10 @@ after_oev_is : (word : List ℕ) (words : List (List ℕ)) → bytes_eq word (co
 after_oev_is word words b (play, e) = absurd (bytes_other (codes "oev") (codes "play") refl (heads (codes "oev") (codes "play") (word ∷ words) [] e.words_are))
 after_oev_is word words b (run, e) = absurd (bytes_other (codes "oev") (codes "run") refl (heads (codes "oev") (codes "run") (word ∷ words) [] e.words_are))
 after_oev_is word words b (mirror, e) = absurd (bytes_other (codes "oev") (codes "mirror") refl (heads (codes "oev") (codes "mirror") (word ∷ words) [] e.words_are))
+after_oev_is word words b (boot, e) = absurd (bytes_other (codes "oev") (codes "boot") refl (heads (codes "oev") (codes "boot") (word ∷ words) [] e.words_are))
 after_oev_is word words b (node, e) = absurd (bytes_other (codes "oev") (codes "node") refl (heads (codes "oev") (codes "node") (word ∷ words) [] e.words_are))
 after_oev_is word words b (fsck, e) = absurd (bytes_other (codes "oev") (codes "fsck") refl (heads (codes "oev") (codes "fsck") (word ∷ words) [] e.words_are))
+after_oev_is word words b (judge, e) = absurd (bytes_other (codes "oev") (codes "judge") refl (heads (codes "oev") (codes "judge") (word ∷ words) [] e.words_are))
 after_oev_is word words b (gen number edits nodes, e) = absurd (bytes_other (codes "oev") (codes "gen") refl
     (heads (codes "oev") (codes "gen") (word ∷ words) (decimal number ∷ decimal edits ∷ decimal nodes ∷ []) e.words_are))
 after_oev_is word words b (list (tool.Oev of) name, e) = (of, name, tails (codes "oev") (codes "oev") (word ∷ words) (segment_word of ∷ name ∷ []) e.words_are)
@@ -170,8 +181,10 @@ after_oiv_is : (word : List ℕ) (words : List (List ℕ)) → no_other word ≡
 after_oiv_is word words b (play, e) = absurd (bytes_other (codes "oiv") (codes "play") refl (heads (codes "oiv") (codes "play") (word ∷ words) [] e.words_are))
 after_oiv_is word words b (run, e) = absurd (bytes_other (codes "oiv") (codes "run") refl (heads (codes "oiv") (codes "run") (word ∷ words) [] e.words_are))
 after_oiv_is word words b (mirror, e) = absurd (bytes_other (codes "oiv") (codes "mirror") refl (heads (codes "oiv") (codes "mirror") (word ∷ words) [] e.words_are))
+after_oiv_is word words b (boot, e) = absurd (bytes_other (codes "oiv") (codes "boot") refl (heads (codes "oiv") (codes "boot") (word ∷ words) [] e.words_are))
 after_oiv_is word words b (node, e) = absurd (bytes_other (codes "oiv") (codes "node") refl (heads (codes "oiv") (codes "node") (word ∷ words) [] e.words_are))
 after_oiv_is word words b (fsck, e) = absurd (bytes_other (codes "oiv") (codes "fsck") refl (heads (codes "oiv") (codes "fsck") (word ∷ words) [] e.words_are))
+after_oiv_is word words b (judge, e) = absurd (bytes_other (codes "oiv") (codes "judge") refl (heads (codes "oiv") (codes "judge") (word ∷ words) [] e.words_are))
 after_oiv_is word words b (gen number edits nodes, e) = absurd (bytes_other (codes "oiv") (codes "gen") refl
     (heads (codes "oiv") (codes "gen") (word ∷ words) (decimal number ∷ decimal edits ∷ decimal nodes ∷ []) e.words_are))
 after_oiv_is word words b (list (tool.Oev of) name, e) =
@@ -287,8 +300,10 @@ after_back_is : (words : List (List ℕ)) → IsCommand (codes "oev" ∷ codes "
 after_back_is words (play, e) = absurd (bytes_other (codes "oev") (codes "play") refl (heads (codes "oev") (codes "play") (codes "back" ∷ words) [] e.words_are))
 after_back_is words (run, e) = absurd (bytes_other (codes "oev") (codes "run") refl (heads (codes "oev") (codes "run") (codes "back" ∷ words) [] e.words_are))
 after_back_is words (mirror, e) = absurd (bytes_other (codes "oev") (codes "mirror") refl (heads (codes "oev") (codes "mirror") (codes "back" ∷ words) [] e.words_are))
+after_back_is words (boot, e) = absurd (bytes_other (codes "oev") (codes "boot") refl (heads (codes "oev") (codes "boot") (codes "back" ∷ words) [] e.words_are))
 after_back_is words (node, e) = absurd (bytes_other (codes "oev") (codes "node") refl (heads (codes "oev") (codes "node") (codes "back" ∷ words) [] e.words_are))
 after_back_is words (fsck, e) = absurd (bytes_other (codes "oev") (codes "fsck") refl (heads (codes "oev") (codes "fsck") (codes "back" ∷ words) [] e.words_are))
+after_back_is words (judge, e) = absurd (bytes_other (codes "oev") (codes "judge") refl (heads (codes "oev") (codes "judge") (codes "back" ∷ words) [] e.words_are))
 after_back_is words (gen number edits nodes, e) = absurd (bytes_other (codes "oev") (codes "gen") refl
     (heads (codes "oev") (codes "gen") (codes "back" ∷ words) (decimal number ∷ decimal edits ∷ decimal nodes ∷ []) e.words_are))
 after_back_is words (list (tool.Oev of) name, e) =
@@ -428,8 +443,10 @@ after_gen_is : (words : List (List ℕ)) → IsCommand (codes "gen" ∷ words) �
 after_gen_is words (play, e) = absurd (bytes_other (codes "gen") (codes "play") refl (heads (codes "gen") (codes "play") words [] e.words_are))
 after_gen_is words (run, e) = absurd (bytes_other (codes "gen") (codes "run") refl (heads (codes "gen") (codes "run") words [] e.words_are))
 after_gen_is words (mirror, e) = absurd (bytes_other (codes "gen") (codes "mirror") refl (heads (codes "gen") (codes "mirror") words [] e.words_are))
+after_gen_is words (boot, e) = absurd (bytes_other (codes "gen") (codes "boot") refl (heads (codes "gen") (codes "boot") words [] e.words_are))
 after_gen_is words (node, e) = absurd (bytes_other (codes "gen") (codes "node") refl (heads (codes "gen") (codes "node") words [] e.words_are))
 after_gen_is words (fsck, e) = absurd (bytes_other (codes "gen") (codes "fsck") refl (heads (codes "gen") (codes "fsck") words [] e.words_are))
+after_gen_is words (judge, e) = absurd (bytes_other (codes "gen") (codes "judge") refl (heads (codes "gen") (codes "judge") words [] e.words_are))
 after_gen_is words (gen number edits nodes, e) = record {
   number = number;
   edits = edits;
@@ -603,7 +620,9 @@ no_wrong_word words asked is = by (usage_of words) refl
 unfoldable alone_at : List ℕ → Asked
 alone_at word =
     if bytes_eq word (codes "play") then play
-    else (if bytes_eq word (codes "run") then run else (if bytes_eq word (codes "mirror") then mirror else (if bytes_eq word (codes "node") then node else fsck)))
+    else (if bytes_eq word (codes "run") then run else (if bytes_eq word (codes "mirror") then mirror
+    else (if bytes_eq word (codes "boot") then boot else (if bytes_eq word (codes "node") then node
+    else (if bytes_eq word (codes "fsck") then fsck else judge)))))
 
 unfoldable segment_at : List ℕ → SegmentTool
 segment_at word = if bytes_eq word (codes "list") then segment.List else (if bytes_eq word (codes "stats") then segment.Stats else segment.Json)
@@ -627,8 +646,10 @@ unfolding asked_at tool_at image_at segment_at alone_at
 asked_back play h = refl
 asked_back run h = refl
 asked_back mirror h = refl
+asked_back boot h = refl
 asked_back node h = refl
 asked_back fsck h = refl
+asked_back judge h = refl
 asked_back (gen number edits nodes) h =
     let a : number ≤ 4611686018427387904 = h.number_fits in
     let b : edits ≤ 10000 = h.few_edits in

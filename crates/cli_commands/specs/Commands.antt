@@ -12,15 +12,17 @@ use Rattle.cli_commands.specs.declared.command.Command.{Command}
 use Rattle.cli_commands.specs.declared.command.Command.TheVariants as command
 
 -- What can be asked for: a script is played, in order or by threads, or in order and its nodes are
--- mirrored, a node is served, the disk's files are checked, the script that a number gives is
--- played, with so many edits over so many nodes, or what this tool makes of the file of this name
--- is written.
+-- mirrored or a fresh standby boots over them, a node is served, the disk's files are checked, a
+-- report is judged, the script that a number gives is played, with so many edits over so many
+-- nodes, or what this tool makes of the file of this name is written.
 pub data Asked : Type 0 where
   play : Asked
   run : Asked
   mirror : Asked
+  boot : Asked
   node : Asked
   fsck : Asked
+  judge : Asked
   gen : (number edits nodes : ℕ) → Asked
   list : Tool → List ℕ → Asked
 
@@ -29,8 +31,10 @@ abbrev pub asked_in : Command → Asked
 asked_in command.Play = play
 asked_in command.Run = run
 asked_in command.Mirror = mirror
+asked_in command.Boot = boot
 asked_in command.Node = node
 asked_in command.Fsck = fsck
+asked_in command.Judge = judge
 asked_in (command.Gen number edits nodes) = gen number edits nodes
 asked_in (command.Listing of name) = list of name.now
 
@@ -66,8 +70,10 @@ abbrev pub words_of : Asked → List (List ℕ)
 words_of play = codes "play" ∷ []
 words_of run = codes "run" ∷ []
 words_of mirror = codes "mirror" ∷ []
+words_of boot = codes "boot" ∷ []
 words_of node = codes "node" ∷ []
 words_of fsck = codes "fsck" ∷ []
+words_of judge = codes "judge" ∷ []
 words_of (gen number edits nodes) = codes "gen" ∷ decimal number ∷ decimal edits ∷ decimal nodes ∷ []
 words_of (list of name) = program_of of ∷ word_of of ∷ name ∷ numbers_of of
 

@@ -12,6 +12,7 @@ use Rattle.cli_commands.specs.declared.command_fault.CommandFault.TheVariants as
 abbrev pub status_of : CommandFault → Status
 status_of (fault.Usage place) = status.Usage
 status_of (fault.BadScript line rule) = status.BadScript
+status_of (fault.BadReport line rule) = status.BadScript
 status_of fault.NoFile = status.BadBytes
 status_of (fault.BadBytes place cause) = status.BadBytes
 status_of (fault.BadImage place cause) = status.BadBytes
@@ -52,6 +53,7 @@ error_line what = codes "error " ++ what ++ 10 ∷ []
 abbrev pub line_of : CommandFault → List ℕ
 line_of (fault.Usage place) = error_line (codes "Usage " ++ decimal place)
 line_of (fault.BadScript line rule) = error_line (codes "BadScript " ++ decimal line ++ 32 ∷ decimal rule)
+line_of (fault.BadReport line rule) = error_line (codes "BadReport " ++ decimal line ++ 32 ∷ decimal rule)
 line_of fault.NoFile = error_line (codes "BadBytes 0 NoFile")
 line_of (fault.BadBytes place cause) = error_line (codes "BadBytes " ++ decimal place ++ 32 ∷ cause_word cause)
 line_of (fault.BadImage place cause) = error_line (codes "BadBytes " ++ decimal place ++ 32 ∷ image_cause_word cause)

@@ -25,10 +25,14 @@ pub enum Command<'a> {
     Run,
     /// To play it in order, and to mirror the final segments of its nodes.
     Mirror,
+    /// To play it in order, and to boot a fresh standby over its nodes.
+    Boot,
     /// To serve a node, whose files are on the disk.
     Node,
     /// To check the disk's files.
     Fsck,
+    /// To judge the report that the source gives.
+    Judge,
     /// To play the script that a number gives, with so many edits over so many nodes.
     Gen { number: u64, edits: u64, nodes: u64 },
     /// To write what a tool makes of a file of the disk.
@@ -45,10 +49,14 @@ fn command_of<'a>(word: &str) -> Option<Command<'a>>
         Some(Command::Run)
     } else if word == "mirror" {
         Some(Command::Mirror)
+    } else if word == "boot" {
+        Some(Command::Boot)
     } else if word == "node" {
         Some(Command::Node)
     } else if word == "fsck" {
         Some(Command::Fsck)
+    } else if word == "judge" {
+        Some(Command::Judge)
     } else {
         None
     }

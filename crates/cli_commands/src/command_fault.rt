@@ -18,6 +18,8 @@ pub enum CommandFault {
     Usage(u64),
     /// This line of the script or of a node's requests, from 1, breaks this rule.
     BadScript { line: u64, rule: u64 },
+    /// This line of the report, from 1, breaks this rule.
+    BadReport { line: u64, rule: u64 },
     /// No file has the name.
     NoFile,
     /// The segment's file has this damage at this byte.
@@ -63,6 +65,7 @@ pub fn status_for(fault: &CommandFault) -> Status
     match fault {
         CommandFault::Usage(_) => Status::Usage,
         CommandFault::BadScript { .. } => Status::BadScript,
+        CommandFault::BadReport { .. } => Status::BadScript,
         CommandFault::NoFile => Status::BadBytes,
         CommandFault::BadBytes { .. } | CommandFault::BadImage { .. } | CommandFault::BadFile(_) =>
             Status::BadBytes,
@@ -151,6 +154,19 @@ fn script_line(number: u64, rule: u64) -> Line
     line
 }
 
+/// That a line of a report breaks a rule.
+fn report_line(number: u64, rule: u64) -> Line
+    ensures { result.items ≡ error_line (codes "BadReport " ++ decimal number ++ 32 ∷ decimal rule) }
+{
+    let mut line = Line::new();
+    put(&mut line, b"error BadReport ");
+    put_number(&mut line, number);
+    put(&mut line, b" ");
+    put_number(&mut line, rule);
+    put(&mut line, b"\n");
+    line
+}
+
 /// That bytes are bad at a place.
 fn bytes_line(place: u64, word: &str) -> Line
     requires { length word.now ≤ 8 }
@@ -182,6 +198,7 @@ pub fn line_for(fault: &CommandFault) -> Line
     match fault {
         CommandFault::Usage(place) => number_line("error Usage ", *place),
         CommandFault::BadScript { line, rule } => script_line(*line, *rule),
+        CommandFault::BadReport { line, rule } => report_line(*line, *rule),
         CommandFault::NoFile => plain_line("error BadBytes 0 NoFile\n"),
         CommandFault::BadBytes { place, cause } => bytes_line(*place, word_for(*cause)),
         CommandFault::BadImage { place, cause } => bytes_line(*place, image_word_for(*cause)),

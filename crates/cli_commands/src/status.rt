@@ -7,7 +7,8 @@ pub enum Status {
     Ok,
     /// A word after the program's name is missing or wrong.
     Usage,
-    /// A line of the script breaks a rule, or one that a node is to answer isn't a request.
+    /// A line of the script or of the report breaks a rule, or one that a node is to answer isn't a
+    /// request.
     BadScript,
     /// The bytes of the named file aren't those of a segment's file, of an image or of a listing as
     /// JSON, as they are to be, or there is no such file; or a file of the node isn't in its
@@ -17,7 +18,7 @@ pub enum Status {
     /// file has more than 134,217,728; or a listing has more than 16,384 entries; or a node's
     /// request line has more than 1,048,576 bytes, or all of them have more than 1,073,741,824.
     Limit,
-    /// The check of the files told a finding.
+    /// The check of the files told a finding, or the report's lists don't agree.
     Unsound,
     /// The source failed.
     ReadFault,

@@ -11,7 +11,8 @@ mod serving;
 mod session_node;
 mod worked;
 
-pub use line_reader::{LONGEST_INPUT, LONGEST_LINE};
+pub use line_reader::{LONGEST_INPUT, LONGEST_LINE, LineReader};
+pub use next::Next;
 pub use served::Served;
 pub use serving::serve;
 pub use session_node::SessionNode;

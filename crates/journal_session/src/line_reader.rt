@@ -25,7 +25,7 @@ const PIECE: usize = 65_536;
 /// Takes lines from what was read of a source. Contracts see the bytes that were read and not
 /// taken, how many were taken, and the line that was taken last.
 #[derive(Drop)]
-pub(crate) struct LineReader {
+pub struct LineReader {
     // from `at` on it has the bytes that weren't taken, and from `start` to `end` the line that was
     // taken last
     buffer: Vec<u8>,
@@ -101,7 +101,7 @@ fn read_piece<S: Source>(source: &mut S, piece: &mut [u8], most: usize) -> Resul
 
 impl LineReader {
     /// A reader that holds nothing.
-    pub(crate) fn new(alloc: Global) -> Result<LineReader, OutOfMemory>
+    pub fn new(alloc: Global) -> Result<LineReader, OutOfMemory>
         ensures held { IfOk result (λ reader. reader.held ≡ []) }
         ensures taken { IfOk result (λ reader. reader.taken ≡ 0) }
     {
@@ -115,8 +115,18 @@ impl LineReader {
         })
     }
 
+    /// Counts what is taken from here on: an input that has no bound is read line by line, and what
+    /// was taken before doesn't count.
+    pub fn count_anew(&mut self)
+        ensures held { self.new.held ≡ self.old.held }
+        ensures line { self.new.line ≡ self.old.line }
+        ensures taken { self.new.taken ≡ 0 }
+    {
+        self.taken = 0;
+    }
+
     /// The line that was taken last.
-    pub(crate) fn line(&self) -> &[u8]
+    pub fn line(&self) -> &[u8]
         ensures bytes { result.now ≡ self.now.line }
     {
         let (_, rest) = self.buffer.split_at(self.start);
@@ -125,7 +135,7 @@ impl LineReader {
     }
 
     /// Takes the next line, without its LF. The source is read only where no whole line is held.
-    pub(crate) fn next_line<S: Source>(&mut self, source: &mut S) -> Next
+    pub fn next_line<S: Source>(&mut self, source: &mut S) -> Next
         ensures next { IsNextLine result self.new.line self.old self.new (S.left source.old) (S.left source.new) }
         ensures within { self.new.taken + length self.new.held ≤ longest_input }
         ensures only_if_needed { IsLine self.old.held ⊎ (S.left source.new ≡ S.left source.old) }

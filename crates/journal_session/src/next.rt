@@ -2,7 +2,7 @@
 
 /// What came of the next line of a source.
 #[derive(Clone, Copy)]
-pub(crate) enum Next {
+pub enum Next {
     /// A line that an LF ends.
     Line,
     /// The last line, which no LF ends. It isn't empty.

@@ -19,4 +19,4 @@ pub use replies::{print_cause, print_reply};
 pub use request_line::ReadRequest;
 pub use request_word::RequestWord;
 pub use requests::print_request;
-pub use words::read_bodies;
+pub use words::{Words, number_word, read_bodies};

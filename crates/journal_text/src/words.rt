@@ -12,7 +12,7 @@ use std::marker::Model;
 
 /// The words that are left of a line. Contracts see them as a list.
 #[derive(Drop)]
-pub(crate) struct Words<'a> {
+pub struct Words<'a> {
     rest: Option<&'a [u8]>,
 }
 
@@ -27,7 +27,7 @@ impl<'a> Model for Words<'a> {
 }
 
 /// The word as a number of 64 bits, no less than that, without a leading zero.
-fn number_word(word: &[u8], least: u64) -> Option<u64>
+pub fn number_word(word: &[u8], least: u64) -> Option<u64>
     ensures number { result ≡ number_in least word.now }
     ensures least { IfSome result (λ n. least ≤ n) }
 {
@@ -97,14 +97,14 @@ pub fn read_bodies(alloc: Global, text: &[u8]) -> Result<Option<BodyList>, OutOf
 
 impl<'a> Words<'a> {
     /// Those of a line.
-    pub(crate) fn of(line: &'a [u8]) -> Words<'a>
+    pub fn of(line: &'a [u8]) -> Words<'a>
         ensures { result ≡ words_of line.now }
     {
         Words { rest: Some(line) }
     }
 
     /// The next one.
-    pub(crate) fn next(&mut self) -> Option<&'a [u8]>
+    pub fn next(&mut self) -> Option<&'a [u8]>
         ensures { MatchOption result ((self.old ≡ []) × (self.new ≡ [])) (λ word. self.old ≡ word.now ∷ self.new) }
     {
         let text = self.rest?;
@@ -172,7 +172,7 @@ impl<'a> Words<'a> {
     /// All that are left as bodies. Before the first is copied the others are judged, so no memory
     /// is taken where one of them is none.
     #[tactic(auto, using(crate::proofs::WordLaws::collects))]
-    pub(crate) fn bodies(&mut self, alloc: Global) -> Result<Option<BodyList>, OutOfMemory>
+    pub fn bodies(&mut self, alloc: Global) -> Result<Option<BodyList>, OutOfMemory>
         ensures bodies { IfOk result (λ bodies. bodies ≡ bodies_in self.old) }
         ensures count { IfOk result (λ bodies. IfSome bodies (λ list. length list ≡ length self.old)) }
         ensures memory { OnErr result (is_some (bodies_in self.old) ≡ true) }

@@ -15,3 +15,4 @@ pub mod LeadingCode
 pub mod Alike
 pub mod Following
 pub mod PartLaws
+pub mod Broken

@@ -8,3 +8,4 @@ pub mod Matching
 pub mod Parts
 pub mod Marking
 pub mod Leading
+pub mod Broken

@@ -1,14 +1,16 @@
 //! Whether a mesh agrees.
-ghost use Rattle.std.specs.Prelude.{◌≡◌, ◌<◌, ◌≤◌, ◌+◌, ℕ, Decides, IfOk, length};
+ghost use Rattle.std.specs.Prelude.{◌≡◌, ◌<◌, ◌≤◌, ◌+◌, ℕ, Decides, IfOk, MatchOption, length};
 ghost use Rattle.mesh.specs.Agree.{Agrees, operator_of, record_of};
 ghost use Rattle.mesh.specs.Makers.{IsOperators};
 ghost use Rattle.mesh_judge.specs.Parts.{IsSized, RecordsWithin, HistoriesWithin, AreLocal, AllGoByPlan, AllMade};
+ghost use Rattle.mesh_judge.specs.Broken.{BreaksFirst};
 
 use crate::lines::{are_operators, are_within, callers_within};
 use crate::local::is_local_run;
 use crate::making::is_of_chores;
 use crate::marking::goes_by_plan;
 use crate::matching::are_all_same;
+use crate::part::Part;
 use journal_core::OutOfMemory;
 use mesh::Mesh;
 use std::alloc::Global;
@@ -108,36 +110,51 @@ fn does_operate(mesh: &Mesh) -> bool
     are_operators(mesh.records.as_slice()[operator].as_slice())
 }
 
+/// The first part of agreement that the lists break, if they break one: they agree exactly where
+/// they break none. `OutOfMemory` where the nodes and writers that are led along the lists can't be
+/// kept.
+pub fn broken_part(alloc: Global, mesh: &Mesh) -> Result<Option<Part>, OutOfMemory>
+    ensures { IfOk result (λ broken. MatchOption broken (Agrees mesh.now) (λ part. BreaksFirst part mesh.now)) }
+{
+    if !is_sized(mesh) {
+        return Ok(Some(Part::Sizes));
+    }
+    if !are_records_within(mesh) {
+        return Ok(Some(Part::Nodes));
+    }
+    if !are_histories_within(mesh) {
+        return Ok(Some(Part::Callers));
+    }
+    if !does_operate(mesh) {
+        return Ok(Some(Part::Operator));
+    }
+    let is_local = are_local(alloc, mesh)?;
+    if !is_local {
+        return Ok(Some(Part::Histories));
+    }
+    let is_same = are_all_same(alloc, mesh)?;
+    if !is_same {
+        return Ok(Some(Part::Calls));
+    }
+    let is_planned = do_all_go_by_plan(alloc, mesh)?;
+    if !is_planned {
+        return Ok(Some(Part::Marks));
+    }
+    let is_made = are_all_made(alloc, mesh)?;
+    if !is_made {
+        return Ok(Some(Part::Rounds));
+    }
+    Ok(None)
+}
+
 /// Whether the lists of all nodes and of all callers are of one play: each history is what one node
 /// answers, the operator operates, each node and each caller list the same of each other, the calls
 /// go by the plan's marks and are those of some chores. `OutOfMemory` where the nodes and writers
 /// that are led along the lists can't be kept.
+#[tactic(auto, using(crate::proofs::Broken::decided))]
 pub fn agrees(alloc: Global, mesh: &Mesh) -> Result<bool, OutOfMemory>
     ensures { IfOk result (λ agrees. Decides agrees (Agrees mesh.now)) }
 {
-    if !is_sized(mesh) {
-        return Ok(false);
-    }
-    if !are_records_within(mesh) {
-        return Ok(false);
-    }
-    if !are_histories_within(mesh) {
-        return Ok(false);
-    }
-    if !does_operate(mesh) {
-        return Ok(false);
-    }
-    let is_local = are_local(alloc, mesh)?;
-    if !is_local {
-        return Ok(false);
-    }
-    let is_same = are_all_same(alloc, mesh)?;
-    if !is_same {
-        return Ok(false);
-    }
-    let is_planned = do_all_go_by_plan(alloc, mesh)?;
-    if !is_planned {
-        return Ok(false);
-    }
-    are_all_made(alloc, mesh)
+    let broken = broken_part(alloc, mesh)?;
+    Ok(broken.is_none())
 }

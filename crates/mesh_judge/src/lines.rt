@@ -19,7 +19,7 @@ fn is_within(nodes: usize, line: &Record) -> bool
 }
 
 /// Each line of a record is of one of that many nodes, or of none.
-pub(crate) fn are_within(nodes: usize, lines: &[Record]) -> bool
+pub fn are_within(nodes: usize, lines: &[Record]) -> bool
     ensures { Decides result (AreWithin nodes lines.now) }
 {
     for line in lines {
@@ -64,7 +64,7 @@ fn is_operators(line: &Record) -> bool
 }
 
 /// Each line of a record is one of an operator.
-pub(crate) fn are_operators(lines: &[Record]) -> bool
+pub fn are_operators(lines: &[Record]) -> bool
     ensures { Decides result (IsOperators lines.now) }
 {
     for line in lines {

@@ -9,7 +9,7 @@ use journal_step::PlainNode;
 use std::alloc::Global;
 
 /// One node answers so from its beginning on, with its armings.
-pub(crate) fn is_local_run(alloc: Global, lines: &[HistoryLine]) -> Result<bool, OutOfMemory>
+pub fn is_local_run(alloc: Global, lines: &[HistoryLine]) -> Result<bool, OutOfMemory>
     ensures { IfOk result (λ is_local. Decides is_local (IsLocalRun fresh_cell lines.now)) }
 {
     let mut cell = NodeCell::new(alloc, PlainNode::new(alloc));

@@ -320,11 +320,7 @@ fn some_left(candidates: &[Candidate]) -> bool
 /// The calls of a record are those of some chores of one caller, by the answers that it has. A
 /// journal request may be a log's or end a segment: each candidate that goes on is led, until the
 /// next calls tell.
-pub(crate) fn is_of_chores(
-    alloc: Global,
-    nodes: usize,
-    lines: &[Record],
-) -> Result<bool, OutOfMemory>
+pub fn is_of_chores(alloc: Global, nodes: usize, lines: &[Record]) -> Result<bool, OutOfMemory>
     requires { AreWithin nodes lines.now }
     ensures { IfOk result (λ is_made. Decides is_made (IsOfChores nodes lines.now)) }
 {

@@ -72,7 +72,7 @@ fn is_done_or_idle(answer: &NodeAnswer, done: bool) -> bool
 
 /// The caller's line and the node's are of one event.
 #[tactic(auto, unfolding(mesh::specs::Matches::IsSame))]
-fn is_same(line: &Record, at_node: &HistoryLine) -> bool
+pub fn is_same(line: &Record, at_node: &HistoryLine) -> bool
     ensures { Decides result (IsSame line.now at_node.now) }
 {
     match line {

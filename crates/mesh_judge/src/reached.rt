@@ -60,7 +60,7 @@ impl ReachList {
 }
 
 /// The node that a line reached: a call that wasn't delivered, and a result, reached none.
-fn node_reached(line: &Record) -> Option<usize>
+pub fn node_reached(line: &Record) -> Option<usize>
     ensures { result ≡ node_reached line.now }
 {
     match line {

@@ -4,6 +4,8 @@ use Rattle.std.specs.Prelude.{slice_get}
 use Rattle.std.proofs.lemmas.Bool.{cond-true}
 use Rattle.std.proofs.lemmas.List.{append-nil}
 use Rattle.journal_core.specs.Reads.{served}
+use Rattle.journal_core.specs.Step.{node_step}
+use Rattle.journal_core.specs.declared.request.Request.TheVariants.{Read}
 use Rattle.journal_core.specs.Segments.{find_segment, AreRising, HasAt}
 use Rattle.journal_core.specs.declared.node_state.NodeState.{NodeState}
 use Rattle.journal_core.specs.declared.segment.Segment.{Segment}
@@ -20,7 +22,8 @@ use Rattle.mesh.specs.Order.{epoch_order, placed_from, placed_at, entries_at}
 use Rattle.play_model.specs.Plays.{states_after}
 use Rattle.play_laws.specs.Linear.{IsLinear, OnLine}
 use Rattle.play_laws.specs.Finals.{FinalsAreOnLine}
-use Rattle.play_laws.proofs.ReadLaws.{node_only, history_state, reverse_filter}
+use Rattle.play_laws.specs.EndReads.{EndReadsAreOnLine}
+use Rattle.play_laws.proofs.ReadLaws.{node_only, history_state, reverse_filter, gives_line}
 use Rattle.play_laws.proofs.Safeties.{epoch_order_linear}
 
 -- ## A history's state
@@ -41,6 +44,13 @@ state_in [] i s e = cc
 state_in (h ∷ hs) zero s e = let same : (cell_after fresh_cell h).state ≡ s = cc in (omega arith, same)
 state_in (h ∷ hs) (suc i) s e = let r = state_in hs i s e in (omega (arith, r.0), r.1)
 
+-- at the end of a mesh's histories it is that of the epoch order
+node_is : (m : Mesh) (i : ℕ) (s : NodeState) → Agrees m → slice_get (states_after m.histories) i ≡ Some (Some s) → node_after (i + 1) (reverse (epoch_order m)) ≡ s
+node_is m i s a e =
+    let at = state_in m.histories i s e in
+    let in_ : i < m.nodes = omega (arith, at.0, a.histories) in
+    sym (end_state m (epoch_order m) i (epoch_order_linear m a) in_ (a.lists.local i in_)) ∙ at.1
+
 -- ## Lists of segments
 in_at : (k : ℕ) (gs : List Segment) (g : Segment) → k < length gs → get_or gs k g ≡ g → In g gs
 in_at k [] g l e = absurd (omega (arith, l))
@@ -54,11 +64,15 @@ final_body s g k body f has = ap (λ (bs : List (List ℕ)). slice_get bs k) (co
 pub finals_are_on_line : FinalsAreOnLine
 finals_are_on_line m i txid s g body a e there final has =
     let lin : IsLinear m (epoch_order m) = epoch_order_linear m a in
-    let at = state_in m.histories i s e in
-    let in_ : i < m.nodes = omega (arith, at.0, a.histories) in
-    let is : node_after (i + 1) (reverse (epoch_order m)) ≡ s = sym (end_state m (epoch_order m) i lin in_ (a.lists.local i in_)) ∙ at.1 in
+    let is : node_after (i + 1) (reverse (epoch_order m)) ≡ s = node_is m i s a e in
     let rising : AreRising s.segments = subst (λ (x : NodeState). AreRising x.segments) is (stored_after (i + 1) (reverse (epoch_order m))).rising in
     let found : find_segment g.start (node_after (i + 1) (reverse (epoch_order m))).segments ≡ Some g =
     ap (λ (x : NodeState). find_segment g.start x.segments) is ∙ find-in g s.segments rising (in_at there.0 s.segments g there.1 there.2) in
     subst (λ (t : ℕ). OnLine m (epoch_order m) t body) (sym has.1)
     (served_on_line m.nodes lin.run.0 (reverse (epoch_order m)) lin.run.1 (i + 1) g has.0 body found (final_body (node_after (i + 1) (reverse (epoch_order m))) g has.0 body final has.2))
+
+pub end_reads_are_on_line : EndReadsAreOnLine
+end_reads_are_on_line m i t s batch a e gave =
+    let lin : IsLinear m (epoch_order m) = epoch_order_linear m a in
+    let is : node_after (i + 1) (reverse (epoch_order m)) ≡ s = node_is m i s a e in
+    gives_line m.nodes lin.run.0 (reverse (epoch_order m)) lin.run.1 (i + 1) t batch (ap (λ (x : NodeState). (node_step x (Read (t + 1))).reply) is ∙ gave)

@@ -10,3 +10,4 @@ pub mod Laws
 pub mod Examples
 pub mod Finals
 pub mod ImagesLeft
+pub mod EndReads

@@ -2,6 +2,7 @@
 //! entries; and of the actors of every script.
 ghost use Rattle.play_laws.specs.Linear.{ReadsAreOnLine, ActorsHoldReplays, LogsAreAdmitted, LineReplays, NoneBreaks, LineCallsApart};
 ghost use Rattle.play_laws.specs.Finals.{FinalsAreOnLine};
+ghost use Rattle.play_laws.specs.EndReads.{EndReadsAreOnLine};
 ghost use Rattle.play_laws.specs.ImagesLeft.{ImagesAreLeft};
 ghost use Rattle.play_laws.specs.Laws.{EpochOrderIsLinear, PlayIsLinear, NamesAreSafe, EpochOrderIsSafe, PlaysAreSafe, NamesAreKept, EditsHaveOneResult, ResultsTellAcknowledged};
 
@@ -85,4 +86,9 @@ pub fn images_are_left()
 /// Each edit of a final segment that a node has at the end of its history stands on the line.
 pub fn finals_are_on_line()
     ensures { FinalsAreOnLine }
+{}
+
+/// What a read of a node gives at the end of its history stands on the line.
+pub fn end_reads_are_on_line()
+    ensures { EndReadsAreOnLine }
 {}

@@ -9,10 +9,10 @@ mod worked_plays;
 
 pub use examples::{refuses_orphan_batch, shows_safe_standby};
 pub use laws::{
-    actors_hold_replays, edits_have_one_result, epoch_order_is_safe, finals_are_on_line,
-    images_are_left, line_calls_apart, line_replays, logs_are_admitted, names_are_kept,
-    names_are_safe, none_breaks, orders_are_linear, plays_are_safe, reads_are_on_line,
-    results_tell_acknowledged,
+    actors_hold_replays, edits_have_one_result, end_reads_are_on_line, epoch_order_is_safe,
+    finals_are_on_line, images_are_left, line_calls_apart, line_replays, logs_are_admitted,
+    names_are_kept, names_are_safe, none_breaks, orders_are_linear, plays_are_safe,
+    reads_are_on_line, results_tell_acknowledged,
 };
 pub use named_examples::{
     shows_late_takeover, shows_refused_edits, shows_repeated_calls, shows_standby,

@@ -3,3 +3,4 @@ pub mod Examples
 pub mod Limit
 pub mod Summary
 pub mod Mirrored
+pub mod Booted

@@ -23,7 +23,7 @@ fn put_row_line(out: &mut Vec<u8>, row: &Row) -> Result<(), OutOfMemory>
 
 /// The rows of a namespace, line by line.
 #[tactic(auto, using(crate::proofs::LimitLaws::records))]
-fn put_rows(out: &mut Vec<u8>, rows: &[Row]) -> Result<(), Unprinted>
+pub(crate) fn put_rows(out: &mut Vec<u8>, rows: &[Row]) -> Result<(), Unprinted>
     ensures text { OnOk result (out.new.items ≡ out.old.items ++ rows_text rows.now) }
     ensures long { result ≡ Err Unprinted.TooLong → longest_report < length (out.old.items ++ rows_text rows.now) }
 {

@@ -1,8 +1,10 @@
-//! The report of a play, its summary, and what is told of a mirror of its nodes.
+//! The report of a play, its summary, and what is told of a mirror of its nodes, or of a standby
+//! that begins over them.
 #![tactic(auto)]
 
 mod answer;
 mod asks;
+mod booted;
 mod entries;
 mod examples;
 mod lasts;
@@ -17,6 +19,7 @@ mod tally;
 mod unprinted;
 
 pub use answer::Report;
+pub use booted::{print_booted, print_booted_behind, print_unreachable};
 pub use examples::reports_are_as_written;
 pub use mirrored::print_mirror;
 pub use report::report_of;

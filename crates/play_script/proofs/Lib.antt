@@ -16,3 +16,4 @@ pub mod FaultLaws
 pub mod PushLaws
 pub mod PrintLaws
 pub mod OnlyLaws
+pub mod NamingLaws

@@ -8,3 +8,4 @@ pub mod Rules
 pub mod Reading
 pub mod Laws
 pub mod Examples
+pub mod Naming

@@ -10,6 +10,7 @@ mod laws;
 mod line_read;
 mod line_reading;
 mod lines;
+mod naming;
 mod node_word;
 mod print;
 mod reader;
@@ -28,7 +29,10 @@ pub use examples::{
     names_are_told, namespaces_are_spelled, numbers_are_told, one_writer_logs, words_are_told,
 };
 pub use laws::{script_has_its_text, scripts_break_no_rule, text_is_of_one_script};
+pub use lines::split_line;
+pub use naming::{others_have_names, raw_line};
 pub use print::print_script;
 pub use reader::read_script;
 pub use script::Script;
 pub use script_line::ScriptLine;
+pub use words::{choice_of, is_name};

@@ -66,7 +66,7 @@ fn is_first_line(line: &[u8], named: bool, nodes: usize) -> bool
 
 /// The number of nodes that the first line of such a script tells.
 #[tactic(auto, using(crate::proofs::FirstLaws::first_steps))]
-fn nodes_of(named: bool, line: &[u8]) -> Option<usize>
+pub(crate) fn nodes_of(named: bool, line: &[u8]) -> Option<usize>
     ensures { result ≡ nodes_of named line.now }
 {
     for nodes in 1..16 {

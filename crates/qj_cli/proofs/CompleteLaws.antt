@@ -14,6 +14,8 @@ use Rattle.ns_tree.specs.declared.end.End.{End}
 use Rattle.play_script.specs.Scripts.{ScriptView}
 use Rattle.play_script.specs.Rules.{fault_of}
 use Rattle.play_script.specs.Laws.{ScriptBreaksNoRule}
+use Rattle.play_script.specs.Naming.{names_fault_of}
+use Rattle.play_script.proofs.NamingLaws.{names_break_no_rule}
 use Rattle.cli_commands.specs.declared.status.Status.{Status}
 use Rattle.cli_commands.specs.declared.status.Status.TheVariants as status
 use Rattle.cli_commands.specs.declared.command_fault.CommandFault.{CommandFault}
@@ -23,7 +25,7 @@ use Rattle.cli_commands.specs.declared.tool.Tool.{Tool}
 use Rattle.cli_commands.specs.Uses.{SourceUse, SinkUse, DiskUse}
 use Rattle.cli_commands.specs.Faults.{status_of}
 use Rattle.cli_commands.specs.Told.{IsToldAs, TellsFault, TellsText, Told, wrote_text, told_fault}
-use Rattle.cli_commands.specs.Commands.{Asked, asked_in, play, run, mirror, node, fsck, gen, list, AskFor}
+use Rattle.cli_commands.specs.Commands.{Asked, asked_in, play, run, mirror, boot, node, fsck, judge, gen, list, AskFor}
 use Rattle.qj_cli.specs.Sound.{AreSound, ComeOf}
 use Rattle.qj_cli.specs.Plays.{longest_script, AreTold, IsReadWhole, IsTooLong, IsReadingFault, IsPlayFault, Plays}
 use Rattle.qj_cli.specs.Report.{HasLongReport}
@@ -31,9 +33,12 @@ use Rattle.cli_commands.specs.Listing.{longest_file, IsTooLong as IsTooLongFile,
 use Rattle.cli_commands.specs.Serving.{status_at, is_disk_fault, IsNodeSessionOf, IsNodeSession, ServesNode, IsUnopened, IsServedOrNot, opened, unopened, Serves}
 use Rattle.cli_commands.specs.Checks.{status_with, GivesFindings, IsCheckFault}
 use Rattle.qj_cli.specs.Generates.{IsSummaryFault, Generates}
+use Rattle.qj_cli.specs.Boots.{IsBooted, HasLongBoot, IsBootFault, Boots}
 use Rattle.qj_cli.specs.Mirrors.{Mirrors}
+use Rattle.play_report.specs.Limit.{longest_report}
+use Rattle.qj_cli.specs.Judging.{IsLongReport, agreeing, disagreeing, IsJudgeFault, JudgesReport}
 use Rattle.qj_cli.specs.Does.{Does, Refuses, NeedsThreads}
-use Rattle.qj_cli.specs.Complete.{HasText, HasScript, HasRequests, HasNode, HasFile, NothingFails, IsComplete}
+use Rattle.qj_cli.specs.Complete.{HasText, HasScript, HasNames, HasShort, HasRequests, HasNode, HasFile, NothingFails, IsComplete}
 use Rattle.cli_commands.proofs.OneListing.{in_grammar}
 use Rattle.cli_commands.proofs.WordLaws.{one_command}
 use Rattle.qj_cli.proofs.RequestLaws.{no_bad_next, no_long_next}
@@ -87,6 +92,7 @@ module _ (Leaves : ScriptView → Mesh → List End → Type 0) (source : Source
   play_fault : (of : CommandFault) (s : Status) (sink : SinkUse) → IsPlayFault Leaves source of → TellsFault of s sink → Done s
   play_fault (fault.Usage place) s sink is tells = absurd is
   play_fault (fault.BadScript line rule) s sink is tells = let none : fault_of is.0 ≡ None = unbroken source right.has no_rule is.0 is.1 in let some = is.2 in absurd (cc (none, some))
+  play_fault (fault.BadReport line rule) s sink is tells = absurd is
   play_fault fault.NoFile s sink is tells = absurd is
   play_fault (fault.BadBytes place cause) s sink is tells = absurd is
   play_fault (fault.BadImage place cause) s sink is tells = absurd is
@@ -109,6 +115,7 @@ module _ (source : SourceUse) (right : HasText source) (reads : Rose source.faul
   mirror_fault (fault.Usage place) s sink is tells = absurd is
   mirror_fault (fault.BadScript line rule) s sink is tells =
       let none : fault_of is.0 ≡ None = unbroken source right no_rule is.0 is.1 in let some = is.2 in absurd (cc (none, some))
+  mirror_fault (fault.BadReport line rule) s sink is tells = absurd is
   mirror_fault fault.NoFile s sink is tells = absurd is
   mirror_fault (fault.BadBytes place cause) s sink is tells = absurd is
   mirror_fault (fault.BadImage place cause) s sink is tells = absurd is
@@ -125,10 +132,49 @@ module _ (source : SourceUse) (right : HasText source) (reads : Rose source.faul
   mirror_done sink s writes (wrote_text good bytes gives tells) = text_done good s bytes sink gives.good_is writes tells
   mirror_done sink s writes (told_fault of is tells) = mirror_fault of s sink is tells
 
+-- ## A standby that boots over a play's nodes
+module _ (source : SourceUse) (right : HasNames source) (reads : Rose source.faults_before source.faults_now → ⊥) (no_rule : ScriptBreaksNoRule) where
+  names_unbroken : (read : List ℕ) → IsReadWhole source read → names_fault_of read ≡ None
+  names_unbroken read whole =
+      ap names_fault_of (same_bytes source right.has no_rule read whole.told) ∙ names_break_no_rule right.has.bytes right.has.script no_rule right.has.reads right.named
+
+  not_long_boot : HasLongBoot source → ⊥
+  not_long_boot long =
+      let booted = subst (λ (bytes : List ℕ). IsBooted bytes long.text) (same_bytes source right.has no_rule long.bytes long.read.told) long.booted in
+      let within = right.within long.text booted in
+      let longer = long.longer in
+      omega (arith, within, longer)
+
+  boot_limit : (number : ℕ) → IsBootFault source (fault.Limit number) → ⊥
+  boot_limit number (inl is) = not_long source right.has no_rule is.1
+  boot_limit number (inr is) = not_long_boot is.1
+
+  boot_fault : (of : CommandFault) (s : Status) (sink : SinkUse) → IsBootFault source of → TellsFault of s sink → Done s
+  boot_fault (fault.Usage place) s sink is tells = absurd is
+  boot_fault (fault.BadScript line rule) s sink is tells =
+      let none : names_fault_of is.0 ≡ None = names_unbroken is.0 is.1 in let some = is.2 in absurd (cc (none, some))
+  boot_fault (fault.BadReport line rule) s sink is tells = absurd is
+  boot_fault fault.NoFile s sink is tells = absurd is
+  boot_fault (fault.BadBytes place cause) s sink is tells = absurd is
+  boot_fault (fault.BadImage place cause) s sink is tells = absurd is
+  boot_fault (fault.BadFile name) s sink is tells = absurd is
+  boot_fault fault.NotJson s sink is tells = absurd is
+  boot_fault (fault.BadEntry index) s sink is tells = absurd is
+  boot_fault (fault.TooManyEntries number) s sink is tells = absurd is
+  boot_fault (fault.Limit number) s sink is tells = absurd (boot_limit number is)
+  boot_fault fault.ReadFault s sink is tells = absurd (reads is)
+  boot_fault fault.DiskFault s sink is tells = absurd is
+  boot_fault fault.OutOfMemory s sink is tells = memory_told tells.told s tells.told_as tells.status_is
+
+  boot_done : (sink : SinkUse) (s : Status) → (Rose sink.faults_before sink.faults_now → ⊥) → Boots source sink s → Done s
+  boot_done sink s writes (wrote_text good bytes gives tells) = text_done good s bytes sink gives.good_is writes tells
+  boot_done sink s writes (told_fault of is tells) = boot_fault of s sink is tells
+
 -- ## A generated script
 summary_fault : (of : CommandFault) (s : Status) (sink : SinkUse) → IsSummaryFault of → TellsFault of s sink → Done s
 summary_fault (fault.Usage place) s sink is tells = absurd is
 summary_fault (fault.BadScript line rule) s sink is tells = absurd is
+summary_fault (fault.BadReport line rule) s sink is tells = absurd is
 summary_fault fault.NoFile s sink is tells = absurd is
 summary_fault (fault.BadBytes place cause) s sink is tells = absurd is
 summary_fault (fault.BadImage place cause) s sink is tells = absurd is
@@ -163,6 +209,7 @@ module _ {D : Type 0} (of : Tool) (name : List ℕ) (disk : DiskUse D) (right : 
   list_fault : (why : CommandFault) (s : Status) (sink : SinkUse) → IsListFault of name disk why → TellsFault why s sink → Done s
   list_fault (fault.Usage place) s sink is tells = absurd is
   list_fault (fault.BadScript line rule) s sink is tells = absurd is
+  list_fault (fault.BadReport line rule) s sink is tells = absurd is
   list_fault fault.NoFile s sink is tells = absurd (some_file (there (λ file. IsFileFault of file fault.NoFile) is))
   list_fault (fault.BadBytes place cause) s sink is tells = absurd (in_grammar of right.bytes (fault.BadBytes place cause) right.is
       (there (λ file. IsFileFault of file (fault.BadBytes place cause)) is).1)
@@ -203,6 +250,7 @@ module _ {D : Type 0} (disk : DiskUse D) (calls : Rose (disk.faults disk.before)
   check_fault : (why : CommandFault) (s : Status) (sink : SinkUse) → IsCheckFault disk why → TellsFault why s sink → Checked s
   check_fault (fault.Usage place) s sink is tells = absurd is
   check_fault (fault.BadScript line rule) s sink is tells = absurd is
+  check_fault (fault.BadReport line rule) s sink is tells = absurd is
   check_fault fault.NoFile s sink is tells = absurd is
   check_fault (fault.BadBytes place cause) s sink is tells = absurd is
   check_fault (fault.BadImage place cause) s sink is tells = absurd is
@@ -279,15 +327,64 @@ module _ {D : Type 0} (source : SourceUse) (sink : SinkUse) (disk : DiskUse D) (
   served_done none (opened o) = opened_done none o
   served_done none (unopened o) = unopened_done s none o.why
 
+-- ## A judgement
+-- it was judged, or it has a line that breaks a rule, or memory ran out
+abbrev Judged : Status → Type 0
+Judged s = ((s ≡ status.Ok) ⊎ ((s ≡ status.Unsound) ⊎ (s ≡ status.BadScript))) ⊎ (s ≡ status.OutOfMemory)
+
+memory_judged : (s : Status) → Done s → Judged s
+memory_judged s (inl e) = inl (inl e)
+memory_judged s (inr e) = inr e
+
+-- a line that breaks a rule is told as that, or as memory that ran out
+line_told : (line rule : ℕ) (told : CommandFault) (s : Status) → IsToldAs (fault.BadReport line rule) told → s ≡ status_of told → Judged s
+line_told line rule told s (inl e) is = inl (inr (inr (is ∙ ap status_of e)))
+line_told line rule told s (inr e) is = inr (is ∙ ap status_of e.0)
+
+module _ (source : SourceUse) (right : HasShort source) (reads : Rose source.faults_before source.faults_now → ⊥) where
+  same_report : (read : List ℕ) → AreTold source.told read → read ≡ right.bytes
+  same_report read is = some_told source.told right.bytes read right.told is
+
+  not_longer : IsLongReport source → ⊥
+  not_longer long =
+      let same : length long.bytes ≡ length right.bytes = ap length (same_report long.bytes long.told) in
+      let more : longest_report < length long.bytes = long.long in
+      let short : length right.bytes ≤ longest_report = right.short in
+      omega (arith, same, more, short)
+
+  judge_told : (told of : CommandFault) (s : Status) → IsToldAs of told → s ≡ status_of told → IsJudgeFault source of → Judged s
+  judge_told told (fault.BadReport line rule) s told_as is f = line_told line rule told s told_as is
+  judge_told told (fault.Limit number) s told_as is f = absurd (not_longer f.1)
+  judge_told told fault.ReadFault s told_as is f = absurd (reads f)
+  judge_told told fault.OutOfMemory s told_as is f = memory_judged s (memory_told told s told_as is)
+  judge_told told (fault.Usage place) s told_as is f = absurd f
+  judge_told told (fault.BadScript line rule) s told_as is f = absurd f
+  judge_told told fault.NoFile s told_as is f = absurd f
+  judge_told told (fault.BadBytes place cause) s told_as is f = absurd f
+  judge_told told (fault.BadImage place cause) s told_as is f = absurd f
+  judge_told told (fault.BadFile name) s told_as is f = absurd f
+  judge_told told fault.NotJson s told_as is f = absurd f
+  judge_told told (fault.BadEntry index) s told_as is f = absurd f
+  judge_told told (fault.TooManyEntries number) s told_as is f = absurd f
+  judge_told told fault.DiskFault s told_as is f = absurd f
+
+  judging_done : (sink : SinkUse) (s : Status) → (Rose sink.faults_before sink.faults_now → ⊥) → JudgesReport source sink s → Judged s
+  judging_done sink s writes (wrote_text good text (agreeing bytes read is text_is of) (inl w)) = inl (inl (w.0 ∙ is))
+  judging_done sink s writes (wrote_text good text (disagreeing bytes found read is text_is of place) (inl w)) = inl (inr (inl (w.0 ∙ is)))
+  judging_done sink s writes (wrote_text good text gives (inr w)) = absurd (writes w.1)
+  judging_done sink s writes (told_fault of f told) = judge_told told.told of s told.told_as told.status_is f
+
 -- ## Each command
 pub completes : {D : Type 0} (asked : Asked) (source : SourceUse) (sink : SinkUse) (disk : DiskUse D) (s : Status) → ScriptBreaksNoRule
     → Does asked source sink disk s → IsComplete asked source sink disk s
 completes play source sink disk s no_rule does = λ right nothing. play_done ComeOf source right nothing.reads no_rule sink s nothing.writes does.0
 completes run source sink disk s no_rule does = λ right nothing. play_done AreSound source right nothing.reads no_rule sink s nothing.writes does.0
 completes mirror source sink disk s no_rule does = λ right nothing. mirror_done source right nothing.reads no_rule sink s nothing.writes does.0
+completes boot source sink disk s no_rule does = λ right nothing. boot_done source right nothing.reads no_rule sink s nothing.writes does.0
 completes node source sink disk s no_rule does =
     λ right nothing. served_done source sink disk s right.0 right.1 nothing (no_disk_fault source sink disk s right.0 right.1 nothing does) does.served
 completes fsck source sink disk s no_rule does = λ right nothing. checked disk nothing.calls sink s nothing.writes does.told
+completes judge source sink disk s no_rule does = λ right nothing. judging_done source right nothing.reads sink s nothing.writes does.0
 completes (gen number edits nodes) source sink disk s no_rule does = λ right nothing. generates_done number edits nodes sink s nothing.writes does.0
 completes (list of name) source sink disk s no_rule does = λ right nothing. listed of name disk right nothing.calls sink s nothing.writes does.told
 
@@ -310,8 +407,10 @@ pub needs_run : (asked : Asked) → NeedsThreads asked → asked ≡ run
 needs_run play n = absurd n
 needs_run run n = refl
 needs_run mirror n = absurd n
+needs_run boot n = absurd n
 needs_run node n = absurd n
 needs_run fsck n = absurd n
+needs_run judge n = absurd n
 needs_run (gen number edits nodes) n = absurd n
 needs_run (list of name) n = absurd n
 

@@ -1,6 +1,9 @@
+pub mod BootLaws
+pub mod BootDueLaws
 pub mod MeshEnds
 pub mod ReportLaws
 pub mod PlayLaws
 pub mod RequestLaws
 pub mod CompleteLaws
 pub mod MirrorLaws
+pub mod JudgeLaws

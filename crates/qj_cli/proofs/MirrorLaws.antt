@@ -1,8 +1,8 @@
 -- What is due of a script whose nodes are mirrored.
-use Rattle.std.proofs.Common.{◌≡◌, ℕ, ◌≤◌, List, [], ◌∷◌, All, Option, Some, true, map, refl, sym, ap, ◌∙◌, subst}
+use Rattle.std.proofs.Common.{◌≡◌, ℕ, List, [], ◌∷◌, Option, true, map, refl, sym, ap, ◌∙◌, subst}
 use Rattle.std.proofs.lemmas.List.Elements.{All-nil, All-cons}
 use Rattle.base_disk.specs.Files.{Files}
-use Rattle.journal_core.specs.Segments.{AreWithin, HasAt}
+use Rattle.journal_core.specs.Segments.{AreWithin}
 use Rattle.journal_core.specs.declared.node_state.NodeState.{NodeState}
 use Rattle.journal_core.specs.declared.segment.Segment.{Segment}
 use Rattle.disk_segment.specs.RowsTell.{AreStarts}
@@ -42,7 +42,7 @@ pub node_told : (files : Files) (m : NodeState) (rows : List SegmentRow) → (m.
 unfolding state_of
 node_told files m rows h = λ up. let s : AreSoundFrom (state_of files m rows) = h up in numbered_of (segments_at files rows) s.0.within s.1
 
-agreed : (script : ScriptView) (m : Mesh) (ends : List End) → ComeOf script m ends → Agrees m
+pub agreed : (script : ScriptView) (m : Mesh) (ends : List End) → ComeOf script m ends → Agrees m
 agreed script m ends leaves = subst (λ (x : Mesh). Agrees x) (sym leaves.mesh) leaves.sound.lists.agrees
 
 -- ## The text of nodes that a play left

@@ -15,11 +15,11 @@ use Rattle.cli_commands.specs.Uses.{SourceUse, NoReadFailed}
 use Rattle.qj_cli.specs.Plays.{longest_script, AreTold, IsReadOut, IsReadWhole, GivesScript, IsReadingFault, IsReportFault, GivesReport, IsPlayFault}
 use Rattle.qj_cli.specs.Report.{IsReport}
 
-are_told : (told left : Option (List ℕ)) (bytes : List ℕ) → GivesAll told left bytes → AreTold told bytes
+pub are_told : (told left : Option (List ℕ)) (bytes : List ℕ) → GivesAll told left bytes → AreTold told bytes
 are_told None left bytes all = tt
 are_told (Some told) left bytes all = all.0
 
-is_read_out : (told left : Option (List ℕ)) (bytes : List ℕ) → GivesAll told left bytes → IsReadOut told left
+pub is_read_out : (told left : Option (List ℕ)) (bytes : List ℕ) → GivesAll told left bytes → IsReadOut told left
 is_read_out None left bytes all = tt
 is_read_out (Some told) left bytes all = all.1
 
@@ -31,7 +31,7 @@ read_whole source bytes all same short = record {
   short = short;
 }
 
-some_of_length : (n : ℕ) → (bytes : List ℕ) × (length bytes ≡ n)
+pub some_of_length : (n : ℕ) → (bytes : List ℕ) × (length bytes ≡ n)
 some_of_length zero = ([], refl)
 some_of_length (suc n) = let shorter = some_of_length n in (0 ∷ shorter.0, ap (λ k. suc k) shorter.1)
 
@@ -67,6 +67,7 @@ pub report_fault : (Leaves : ScriptView → Mesh → List End → Type 0) (sourc
     → IsPlayFault Leaves source of
 report_fault Leaves source script m ends (fault.Usage place) given left is = absurd is
 report_fault Leaves source script m ends (fault.BadScript line rule) given left is = absurd is
+report_fault Leaves source script m ends (fault.BadReport line rule) given left is = absurd is
 report_fault Leaves source script m ends fault.NoFile given left is = absurd is
 report_fault Leaves source script m ends (fault.BadBytes place cause) given left is = absurd is
 report_fault Leaves source script m ends (fault.BadImage place cause) given left is = absurd is

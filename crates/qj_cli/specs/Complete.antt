@@ -1,5 +1,5 @@
 -- A command is done where its input is right and nothing fails.
-use Rattle.std.specs.Prelude.{ℕ, ◌≡◌, ◌⊎◌, ◌≤◌, List, [], ◌∷◌, Some, length}
+use Rattle.std.specs.Prelude.{ℕ, ◌≡◌, ◌⊎◌, ◌≤◌, true, List, [], ◌∷◌, Some, length}
 use Rattle.base_outside.specs.Faults.{Rose}
 use Rattle.journal_core.specs.declared.node_state.NodeState.{NodeState}
 use Rattle.journal_core.specs.declared.request.Request.{Request}
@@ -19,8 +19,9 @@ use Rattle.cli_commands.specs.declared.tool.Tool.{Tool}
 use Rattle.cli_commands.specs.declared.status.Status.{Status}
 use Rattle.cli_commands.specs.declared.status.Status.TheVariants as status
 use Rattle.cli_commands.specs.Uses.{SourceUse, SinkUse, DiskUse, AReadFailed, AWriteFailed}
-use Rattle.cli_commands.specs.Commands.{Asked, play, run, mirror, node, fsck, gen, list}
+use Rattle.cli_commands.specs.Commands.{Asked, play, run, mirror, boot, node, fsck, judge, gen, list}
 use Rattle.qj_cli.specs.Sound.{AreSound as AreSoundLists, ComeOf}
+use Rattle.qj_cli.specs.Boots.{IsBooted}
 use Rattle.qj_cli.specs.Report.{IsReport}
 use Rattle.qj_cli.specs.Plays.{longest_script}
 use Rattle.cli_commands.specs.Listing.{longest_file, IsInGrammar, file_under}
@@ -39,6 +40,12 @@ pub record HasScript (Leaves : ScriptView → Mesh → List End → Type 0) (sou
   pub has : HasText source
   pub within : (text : List ℕ) → IsReport Leaves has.bytes text → length text ≤ longest_report
 
+-- a script with names, over whose nodes a standby doesn't write more than a report may have
+pub record HasNames (source : SourceUse) : Type 0 where
+  pub has : HasText source
+  pub named : has.script.named ≡ true
+  pub within : (text : List ℕ) → IsBooted has.bytes text → length text ≤ longest_report
+
 abbrev pub AreRequests : List (List ℕ) → Type 0
 AreRequests [] = Unit {0}
 AreRequests (line ∷ lines) = ((request : Request) × (reading_of line ≡ Read request)) × AreRequests lines
@@ -51,6 +58,12 @@ pub record HasRequests (source : SourceUse) : Type 0 where
   pub all : AreAll bytes lines
   pub each : AreLines lines
   pub requests : AreRequests lines
+
+-- the source's bytes are no more than a report may have
+pub record HasShort (source : SourceUse) : Type 0 where
+  pub bytes : List ℕ
+  pub told : source.told ≡ Some bytes
+  pub short : length bytes ≤ longest_report
 
 -- the disk's files stand for a state that a node may have
 pub record HasNode {D : Type 0} (disk : DiskUse D) : Type 0 where
@@ -74,8 +87,10 @@ abbrev pub IsRight : {D : Type 0} → Asked → SourceUse → DiskUse D → Type
 IsRight play source disk = HasScript ComeOf source
 IsRight run source disk = HasScript AreSoundLists source
 IsRight mirror source disk = HasText source
+IsRight boot source disk = HasNames source
 IsRight node source disk = HasRequests source × HasNode disk
 IsRight fsck source disk = Unit {0}
+IsRight judge source disk = HasShort source
 IsRight (gen number edits nodes) source disk = Unit {0}
 IsRight (list of name) source disk = HasFile of disk name
 
@@ -86,13 +101,16 @@ pub record NothingFails {D : Type 0} (source : SourceUse) (sink : SinkUse) (disk
   pub writes : AWriteFailed sink → ⊥
   pub calls : Rose (disk.faults disk.before) (disk.faults disk.now) → ⊥
 
--- a command that was done has status Ok, or Unsound where it told a finding
+-- A command that was done has status Ok, or Unsound where it told a finding, or that lists don't
+-- agree; or of a report BadScript, where it told a line that breaks a rule.
 abbrev pub IsDone : Asked → Status → Type 0
 IsDone play s = s ≡ status.Ok
 IsDone run s = s ≡ status.Ok
 IsDone mirror s = s ≡ status.Ok
+IsDone boot s = s ≡ status.Ok
 IsDone node s = s ≡ status.Ok
 IsDone fsck s = (s ≡ status.Ok) ⊎ (s ≡ status.Unsound)
+IsDone judge s = (s ≡ status.Ok) ⊎ ((s ≡ status.Unsound) ⊎ (s ≡ status.BadScript))
 IsDone (gen number edits nodes) s = s ≡ status.Ok
 IsDone (list of name) s = s ≡ status.Ok
 

@@ -4,14 +4,16 @@ use Rattle.cli_commands.specs.declared.status.Status.{Status}
 use Rattle.cli_commands.specs.declared.command_fault.CommandFault.TheVariants as fault
 use Rattle.cli_commands.specs.Uses.{SourceUse, SinkUse, DiskUse}
 use Rattle.cli_commands.specs.Told.{TellsFault}
-use Rattle.cli_commands.specs.Commands.{Asked, play, run, mirror, node, fsck, gen, list}
+use Rattle.cli_commands.specs.Commands.{Asked, play, run, mirror, boot, node, fsck, judge, gen, list}
 use Rattle.qj_cli.specs.Sound.{AreSound, ComeOf}
 use Rattle.qj_cli.specs.Plays.{Plays}
 use Rattle.cli_commands.specs.Listing.{Lists}
 use Rattle.cli_commands.specs.Serving.{Serves}
 use Rattle.cli_commands.specs.Checks.{Checks}
 use Rattle.qj_cli.specs.Generates.{Generates}
+use Rattle.qj_cli.specs.Boots.{Boots}
 use Rattle.qj_cli.specs.Mirrors.{Mirrors}
+use Rattle.qj_cli.specs.Judging.{JudgesReport}
 
 -- With this status, by what it did to its source, its sink and its disk. A play leaves the disk
 -- alone, also that of a generated script.
@@ -19,8 +21,10 @@ abbrev pub Does : {D : Type 0} → Asked → SourceUse → SinkUse → DiskUse D
 Does play source sink disk s = Plays ComeOf source sink s × (disk.now ≡ disk.before)
 Does run source sink disk s = Plays AreSound source sink s × (disk.now ≡ disk.before)
 Does mirror source sink disk s = Mirrors source sink s × (disk.now ≡ disk.before)
+Does boot source sink disk s = Boots source sink s × (disk.now ≡ disk.before)
 Does node source sink disk s = Serves source sink disk s
 Does fsck source sink disk s = Checks disk sink s
+Does judge source sink disk s = JudgesReport source sink s × (disk.now ≡ disk.before)
 Does (gen number edits nodes) source sink disk s = Generates number edits nodes sink s × (disk.now ≡ disk.before)
 Does (list of name) source sink disk s = Lists of name disk sink s
 
@@ -38,7 +42,9 @@ abbrev pub ReadsNone : Asked → Type 0
 ReadsNone play = ⊥
 ReadsNone run = ⊥
 ReadsNone mirror = ⊥
+ReadsNone boot = ⊥
 ReadsNone node = ⊥
 ReadsNone fsck = Unit {0}
+ReadsNone judge = ⊥
 ReadsNone (gen number edits nodes) = Unit {0}
 ReadsNone (list of name) = Unit {0}

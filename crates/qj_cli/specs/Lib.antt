@@ -2,6 +2,9 @@ pub mod Sound
 pub mod Report
 pub mod Plays
 pub mod Generates
+pub mod Boots
 pub mod Mirrors
 pub mod Does
 pub mod Complete
+pub mod Judging
+pub mod Due

@@ -1,6 +1,5 @@
 -- How a script whose nodes are mirrored ends, and what it writes.
-use Rattle.std.specs.Prelude.{ℕ, ◌≡◌, List, [], map, Option}
-use Rattle.journal_core.specs.declared.node_state.NodeState.{NodeState}
+use Rattle.std.specs.Prelude.{ℕ, ◌≡◌, List, [], map}
 use Rattle.journal_mirror.specs.Logs.{MirroredBy}
 use Rattle.journal_mirror.specs.Mirrors.{lines_of}
 use Rattle.journal_mirror.specs.States.{told_at, mirror_of}

@@ -2,9 +2,11 @@
 ghost use Rattle.qj_cli.specs.Sound.{AreSound, ComeOf};
 ghost use Rattle.qj_cli.specs.Report.{ScriptsHaveOneReport, ReportsShowNoFault};
 ghost use Rattle.qj_cli.specs.Generates.{NumbersHaveOneSummary};
+ghost use Rattle.qj_cli.specs.Boots.{ScriptsHaveOneBoot};
 ghost use Rattle.qj_cli.specs.Mirrors.{ScriptsHaveOneMirror};
 ghost use Rattle.cli_commands.specs.Listing.{FilesHaveOneListing, FilesHaveOneFault, ListedFilesHaveNoFault};
 
+use play_boot::laws::tails_end_once;
 use play_model::{a_mesh_that_agrees_shows_no_fault, one_script_has_one_play};
 use play_script::text_is_of_one_script;
 
@@ -22,6 +24,15 @@ pub fn scripts_have_one_mirror()
 {
     text_is_of_one_script();
     one_script_has_one_play();
+}
+
+/// A script has one text of what a fresh standby comes to over its play's nodes.
+pub fn scripts_have_one_boot()
+    ensures { ScriptsHaveOneBoot }
+{
+    text_is_of_one_script();
+    one_script_has_one_play();
+    tails_end_once();
 }
 
 /// A number gives one summary: the same on each run.

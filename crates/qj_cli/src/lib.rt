@@ -1,9 +1,11 @@
-//! The top call of the program: words and a script's bytes, a file of a disk, or requests to a node
-//! come in; a report, a summary, what a mirror holds, a listing, a segment, replies or a fault line go
-//! out.
+//! The top call of the program: words and the bytes of a script or of a report, a file of a disk, or
+//! requests to a node come in; a report, a summary, what a mirror holds, what a standby comes to, a
+//! judgement, a listing, a segment, replies or a fault line go out.
 #![tactic(auto)]
 
+mod booting;
 mod generating;
+mod judging;
 mod laws;
 mod mirroring;
 mod playing;
@@ -11,7 +13,7 @@ mod plays;
 mod top;
 
 pub use laws::{
-    files_have_one_listing, numbers_have_one_summary, reports_show_no_fault,
+    files_have_one_listing, numbers_have_one_summary, reports_show_no_fault, scripts_have_one_boot,
     scripts_have_one_mirror, scripts_have_one_report,
 };
 pub use top::{qjm, qjm_alone};

@@ -25,7 +25,7 @@ use std::alloc::Global;
 use std::mem;
 
 /// The final segments of nodes that a play left keep to their txids.
-fn know_segments(nodes: &[JournalNode<MemDisk>])
+pub(crate) fn know_segments(nodes: &[JournalNode<MemDisk>])
     ensures { All (λ n. IsTold (told_state true (disk_view n.disk).seen n.memory n.rows)) nodes.now }
 {
     for node in nodes {

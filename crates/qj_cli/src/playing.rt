@@ -22,10 +22,10 @@ use std::sync::Wait;
 use std::thread::Threads;
 
 /// The most bytes of a script.
-const LONGEST_SCRIPT: u64 = 1_048_576;
+pub(crate) const LONGEST_SCRIPT: u64 = 1_048_576;
 
 /// The script of a source's bytes.
-fn script_of_bytes(alloc: Global, bytes: &[u8]) -> Result<Script, CommandFault>
+pub(crate) fn script_of_bytes(alloc: Global, bytes: &[u8]) -> Result<Script, CommandFault>
     ensures script { IfOk result (λ script. IsScriptText bytes.now script) }
     ensures fault { IfErr result (IsTextFault bytes.now) }
 {

@@ -4,7 +4,8 @@ ghost use Rattle.std.specs.List.{All};
 ghost use Rattle.base_disk.specs.MemDisk.{disk_view, CannotFail};
 ghost use Rattle.disk_node.specs.Node.{told_state};
 ghost use Rattle.play_script.specs.Grammar.{IsScript};
-ghost use Rattle.play_model.specs.Plays.{states_after};
+ghost use Rattle.play_model.specs.Lines.{lines_of};
+ghost use Rattle.play_model.specs.Plays.{LeavesImages, states_after};
 ghost use Rattle.qj_cli.specs.Sound.{AreSound, ComeOf};
 
 use base_disk::MemDisk;
@@ -21,7 +22,7 @@ use play_laws::{
 use play_model::{
     Played, a_mesh_that_agrees_is_safe, a_play_agrees, a_play_follows, scripts_are_playable,
 };
-use play_order::play_on;
+use play_order::{PlayedOn, play_on};
 use play_script::{Script, ScriptLine};
 use play_threads::{Actors, act_alone, run_on};
 use run_safety::laws::every_run_keeps_its_parts;
@@ -44,15 +45,16 @@ impl Actors for ScriptActors {
     }
 }
 
-/// A script played, all lines in order.
-pub fn play_soundly(
+/// A script played, all lines in order; and the images of its actors.
+pub fn play_leaving(
     alloc: Global,
     script: &Script,
-) -> Result<Played<JournalNode<MemDisk>>, OutOfMemory>
+) -> Result<PlayedOn<JournalNode<MemDisk>>, OutOfMemory>
     requires { IsScript script.now }
-    ensures comes { IfOk result (λ played. ComeOf script.now played.mesh played.ends) }
-    ensures states { IfOk result (λ played. map (λ n. told_state true (disk_view n.disk).seen n.memory n.rows) played.nodes.items ≡ states_after played.mesh.histories) }
-    ensures steady { IfOk result (λ played. All (λ n. CannotFail n.disk) played.nodes.items) }
+    ensures comes { IfOk result (λ left. ComeOf script.now left.played.mesh left.played.ends) }
+    ensures states { IfOk result (λ left. map (λ n. told_state true (disk_view n.disk).seen n.memory n.rows) left.played.nodes.items ≡ states_after left.played.mesh.histories) }
+    ensures images { IfOk result (λ left. LeavesImages script.now.named script.now.nodes (lines_of script.now) left.played.mesh left.played.ends left.images.items) }
+    ensures steady { IfOk result (λ left. All (λ n. CannotFail n.disk) left.played.nodes.items) }
 {
     scripts_are_playable();
     a_play_agrees();
@@ -66,6 +68,20 @@ pub fn play_soundly(
     names_are_kept();
     let nodes = fresh_nodes(alloc, script.nodes())?;
     let left = play_on::<ScriptActor, _>(alloc, nodes, script)?;
+    Ok(left)
+}
+
+/// A script played, all lines in order.
+pub fn play_soundly(
+    alloc: Global,
+    script: &Script,
+) -> Result<Played<JournalNode<MemDisk>>, OutOfMemory>
+    requires { IsScript script.now }
+    ensures comes { IfOk result (λ played. ComeOf script.now played.mesh played.ends) }
+    ensures states { IfOk result (λ played. map (λ n. told_state true (disk_view n.disk).seen n.memory n.rows) played.nodes.items ≡ states_after played.mesh.histories) }
+    ensures steady { IfOk result (λ played. All (λ n. CannotFail n.disk) played.nodes.items) }
+{
+    let left = play_leaving(alloc, script)?;
     Ok(left.played)
 }
 

@@ -6,7 +6,9 @@ ghost use Rattle.cli_commands.specs.Uses.{read_from, written_to, done_to};
 ghost use Rattle.qj_cli.specs.Does.{Does, Refuses, ReadsNone, NeedsThreads};
 ghost use Rattle.qj_cli.specs.Complete.{IsComplete};
 
+use crate::booting::boot_script;
 use crate::generating::play_generated;
+use crate::judging::judge_report;
 use crate::mirroring::mirror_script;
 use crate::playing::{play_script, run_script};
 use base_disk::Disk;
@@ -46,12 +48,20 @@ fn do_command<S: Source, K: Sink, D: Disk>(
             status: mirror_script(alloc, source, sink),
             disk,
         }),
+        Command::Boot => Ok(Exit {
+            status: boot_script(alloc, source, sink),
+            disk,
+        }),
         Command::Node => Ok(serve_node(alloc, source, sink, disk)),
         Command::Fsck => {
             let mut disk = disk;
             let status = check_files(alloc, sink, &mut disk);
             Ok(Exit { status, disk })
         }
+        Command::Judge => Ok(Exit {
+            status: judge_report(alloc, source, sink),
+            disk,
+        }),
         Command::Gen {
             number,
             edits,
@@ -119,6 +129,10 @@ pub fn qjm_alone<S: Source, K: Sink, D: Disk>(
 /// - `mirror` plays the script as `play` does, makes one pass of a fresh mirror over its nodes, and
 ///   writes for each node how many final segments it told or why it told none, the segments that
 ///   are held, and how many edits they have. The disk isn't called.
+/// - `boot` plays a script with names as `play` does, boots a fresh standby over its nodes from the
+///   images of its first declared actor, and writes the image's txid, the standby's position and
+///   its rows; or why it doesn't get there: the log begins later, or too few nodes answer. The disk
+///   isn't called.
 /// - `oev list NAME`, `oev stats NAME` and `oev json NAME` read the disk's file of that name, a
 ///   segment's, and write a line for each of its edits, how many there are of each kind, or all as
 ///   an array of JSON. The source isn't read, and the disk isn't changed.
@@ -134,21 +148,29 @@ pub fn qjm_alone<S: Source, K: Sink, D: Disk>(
 ///   to 15. The source isn't read, and the disk isn't called.
 /// - `fsck` checks each file of the disk, and writes a line for each, and how many findings there
 ///   are. The source isn't read, and the disk isn't changed. `Unsound`: there is a finding.
+/// - `judge` judges the report that the source gives, whoever made it: `agrees` where its histories
+///   and records agree, with the marks that the records tell, and else `disagrees PART LIST LINE`:
+///   the first part of agreement that they break, and in which list and line of the report. So what
+///   moved the nodes is a run of the journal world, and safe, where it writes `agrees`. What result
+///   lines claim isn't judged, and neither is what positions and rows tell. The disk isn't called.
+///   `Unsound`: they don't agree.
 /// - `node` opens a JournalNode on the disk, which keeps its state in the disk's files, and answers
 ///   each request line of the source with its reply line. Each reply is written, and the sink
 ///   flushed, before the source is read again. A crash at any moment of the call leaves files that
 ///   stand for the state after some of the lines, stopped inside the next one, and no fewer than
 ///   were answered by then.
 ///
-/// A report, what a mirror holds, a summary, a listing, a segment and findings are computed before
-/// any of it is written. `Usage`: other words, with the place, from 0, of the first word that is missing or wrong;
-/// neither the source nor the disk is called then. `Limit`: the source has more than 1,048,576
-/// bytes, the report would have more than 268,435,456, the file has more than 134,217,728, or the
-/// listing more than 16,384 entries; of a node a line with more than 1,048,576, or a source with
-/// more than 1,073,741,824. `BadScript`: the first line, from 1, that breaks a rule, and the rule;
-/// of a node the first that isn't a request. `BadBytes`: the place of the file's first damage and
-/// its cause, `0 NoFile` where there is no such file; of a listing `0 Json` where the file is no
-/// array of JSON, and `INDEX Entry` of its first value, from 0, that is the object of no edit at
+/// A report, what a mirror holds, what a standby comes to, a summary, a listing, a segment and
+/// findings are computed before any of it is written. `Usage`: other words, with the place, from 0,
+/// of the first word that is missing or wrong; neither the source nor the disk is called then.
+/// `Limit`: the source has more than 1,048,576 bytes, a report, made or judged, or what a standby
+/// comes to has more than 268,435,456, the file has more than 134,217,728, or the listing more than
+/// 16,384 entries; of a node a line with more than 1,048,576, or a source with more than
+/// 1,073,741,824. `BadScript`: the first line, from 1, that breaks a rule, and the rule; of `boot`
+/// rule 1 where the line begins a script without names; of a node the first that isn't a request;
+/// `BadReport` of a report, with the same status. `BadBytes`: the place of the file's first damage
+/// and its cause, `0 NoFile` where there is no such file; of a listing `0 Json` where the file is
+/// no array of JSON, and `INDEX Entry` of its first value, from 0, that is the object of no edit at
 /// its txid; of a node `0 BadFile NAME` where this file isn't in its format, so that the node isn't
 /// opened. `ReadFault`: the source failed. `DiskFault`: the disk failed. `WriteFault`: the sink
 /// failed while the report, the listing, the segment or a reply was written; a prefix was.

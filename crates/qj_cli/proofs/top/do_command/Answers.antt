@@ -12,6 +12,13 @@ returns-in-Play-clause-done g c =
     (done_to g.D.DiskModel.tells g.D.DiskModel.view g.D.DiskModel.faults g.D.DiskModel.steady g.D.DiskModel.left c.args.disk c.args.disk)
     c.play_script.result c.in-Play.is (c.play_script.ensures, refl)
 
+pub returns-in-Judge-clause-done : goal.returns-in-Judge-clause-done
+returns-in-Judge-clause-done g c =
+    does_as c.args.command command.Judge (read_from g.S.Source.left g.S.Source.faults c.args.source.now c.judge_report.new.source)
+    (written_to g.K.Sink.taken g.K.Sink.faults g.K.Sink.kept_back c.args.sink.now c.judge_report.new.sink)
+    (done_to g.D.DiskModel.tells g.D.DiskModel.view g.D.DiskModel.faults g.D.DiskModel.steady g.D.DiskModel.left c.args.disk c.args.disk)
+    c.judge_report.result c.in-Judge.is (c.judge_report.ensures, refl)
+
 pub returns-in-Gen-clause-done : goal.returns-in-Gen-clause-done
 returns-in-Gen-clause-done g c =
     does_as c.args.command (command.Gen c.in-Gen.number c.in-Gen.edits c.in-Gen.nodes) (read_from g.S.Source.left g.S.Source.faults c.args.source.now c.args.source.now)
@@ -31,3 +38,10 @@ returns-in-Mirror-clause-done g c =
     (written_to g.K.Sink.taken g.K.Sink.faults g.K.Sink.kept_back c.args.sink.now c.mirror_script.new.sink)
     (done_to g.D.DiskModel.tells g.D.DiskModel.view g.D.DiskModel.faults g.D.DiskModel.steady g.D.DiskModel.left c.args.disk c.args.disk)
     c.mirror_script.result c.in-Mirror.is (c.mirror_script.ensures, refl)
+
+pub returns-in-Boot-clause-done : goal.returns-in-Boot-clause-done
+returns-in-Boot-clause-done g c =
+    does_as c.args.command command.Boot (read_from g.S.Source.left g.S.Source.faults c.args.source.now c.boot_script.new.source)
+    (written_to g.K.Sink.taken g.K.Sink.faults g.K.Sink.kept_back c.args.sink.now c.boot_script.new.sink)
+    (done_to g.D.DiskModel.tells g.D.DiskModel.view g.D.DiskModel.faults g.D.DiskModel.steady g.D.DiskModel.left c.args.disk c.args.disk)
+    c.boot_script.result c.in-Boot.is (c.boot_script.ensures, refl)

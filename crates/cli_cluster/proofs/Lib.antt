@@ -1,0 +1,4 @@
+pub mod WordLaws
+pub mod StartLaws
+pub mod ServeLaws
+pub mod LeadLaws

@@ -1,0 +1,54 @@
+-- What a name node in a cluster did.
+use Rattle.std.specs.Prelude.{ℕ, ◌≡◌, ◌≢◌, ◌⊎◌, List, [], Option}
+use Rattle.journal_session.specs.Lines.{longest_line}
+use Rattle.mesh.specs.Makers.{IsOfChores}
+use Rattle.pipe_seats.specs.Piped.{PipesView, AreLater, new_seats}
+use Rattle.pipe_lead.specs.declared.lead_end.LeadEnd.{LeadEnd}
+use Rattle.pipe_lead.specs.declared.lead_end.LeadEnd.TheVariants as lead_end
+use Rattle.pipe_lead.specs.Leads.{Leads, IfLasts}
+use Rattle.cli_commands.specs.declared.status.Status.{Status}
+use Rattle.cli_commands.specs.declared.status.Status.TheVariants as status
+use Rattle.cli_commands.specs.declared.command_fault.CommandFault.TheVariants as fault
+use Rattle.cli_commands.specs.Faults.{line_of}
+use Rattle.cli_commands.specs.Told.{WritesLine}
+use Rattle.cli_commands.specs.Uses.{SourceUse, SinkUse, AReadFailed, NoReadFailed, AWriteFailed, NoWriteFailed, HandsOn}
+
+abbrev pub status_after : LeadEnd → Status
+status_after lead_end.Done = status.Ok
+status_after lead_end.LongLine = status.Limit
+status_after lead_end.ReadFault = status.ReadFault
+status_after lead_end.WriteFault = status.WriteFault
+status_after lead_end.OutOfMemory = status.OutOfMemory
+
+-- what is to stand after the results
+abbrev pub line_after : LeadEnd → List ℕ
+line_after lead_end.Done = []
+line_after lead_end.LongLine = line_of (fault.Limit longest_line)
+line_after lead_end.ReadFault = line_of fault.ReadFault
+line_after lead_end.WriteFault = []
+line_after lead_end.OutOfMemory = line_of fault.OutOfMemory
+
+-- How it ended was told: its line was written, where it has one.
+pub record TellsLeadEnd (end : LeadEnd) (s : Status) (sink : SinkUse) : Type 0 where
+  pub status_is : s ≡ status_after end
+  pub line : WritesLine (line_after end) sink
+  pub no_line : (s ≡ status.Ok) ⊎ (s ≡ status.WriteFault) → NoWriteFailed sink
+  pub idle : (s ≡ status.Ok) ⊎ (s ≡ status.WriteFault) → sink.kept_now ≡ sink.kept_before
+
+-- A name node's life, but where memory ran out: its seats at its end, with the record that an actor
+-- lists of the lines that were read, by what it heard; the calls of its tasks and tails; what came
+-- to each node's pipe; the results; and why it ended. Then its end was told.
+pub record LeadsCluster (nodes life : ℕ) (source : SourceUse) (sink : SinkUse) (s : Status) : Type 0 where
+  pub end : LeadEnd
+  pub status_is : s ≡ status_after end
+  pub seats : PipesView
+  pub told : Option (List ℕ)
+  pub leads : IfLasts end (Leads nodes seats.log source.told source.left sink.before told end)
+  pub made : IfLasts end (IsOfChores nodes seats.log.past)
+  pub piped : IfLasts end (AreLater (new_seats nodes life) seats)
+  pub line : WritesLine (line_after end) (record sink { before = told })
+  pub read_fault : s ≡ status.ReadFault → AReadFailed source
+  pub no_read_fault : s ≢ status.ReadFault → NoReadFailed source
+  pub write_fault : s ≡ status.WriteFault → AWriteFailed sink
+  pub no_write_fault : s ≡ status.Ok → NoWriteFailed sink
+  pub handed : s ≡ status.Ok → HandsOn sink

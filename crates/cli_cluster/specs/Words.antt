@@ -1,0 +1,47 @@
+-- The commands of a cluster, and the words that ask for them.
+use Rattle.std.specs.Prelude.{ℕ, ◌≡◌, ◌≤◌, ◌||◌, Bool, false, List, [], ◌∷◌, Option, Some, None, codes, decimal, if◌then◌else◌}
+use Rattle.std.specs.Str.{bytes_eq}
+use Rattle.base_words.specs.WordNumbers.{is_number}
+use Rattle.cli_cluster.specs.declared.cluster_command.ClusterCommand.{ClusterCommand}
+use Rattle.cli_cluster.specs.declared.cluster_command.ClusterCommand.TheVariants as cluster
+
+-- the most clients of a node, and the most nodes of a name node
+abbrev pub most_clients : ℕ
+most_clients = 64
+
+abbrev pub most_nodes : ℕ
+most_nodes = 15
+
+-- ## Words that ask
+abbrev pub cluster_words : ClusterCommand → List (List ℕ)
+cluster_words (cluster.Serve clients) = codes "serve" ∷ decimal clients ∷ []
+cluster_words (cluster.Lead nodes) = codes "lead" ∷ decimal nodes ∷ []
+
+abbrev pub IsInCluster : ClusterCommand → Type 0
+IsInCluster (cluster.Serve clients) = (1 ≤ clients) × (clients ≤ most_clients)
+IsInCluster (cluster.Lead nodes) = (1 ≤ nodes) × (nodes ≤ most_nodes)
+
+pub record AsksCluster (words : List (List ℕ)) (command : ClusterCommand) : Type 0 where
+  pub are : words ≡ cluster_words command
+  pub allowed : IsInCluster command
+
+-- the first word is one of these commands'
+abbrev pub asks_cluster : List (List ℕ) → Bool
+asks_cluster [] = false
+asks_cluster (word ∷ words) = bytes_eq word (codes "serve") || bytes_eq word (codes "lead")
+
+-- ## Wrong words
+-- after it stands one number of this range
+abbrev pub after_one_number : List (List ℕ) → Option ℕ
+after_one_number [] = None
+after_one_number (word ∷ words) = Some 2
+
+unfoldable pub after_counted : ℕ → List (List ℕ) → Option ℕ
+after_counted most [] = Some 1
+after_counted most (word ∷ words) = if is_number 1 most word then after_one_number words else Some 1
+
+-- the place, from 0, of the first word that is missing or wrong after it
+unfoldable pub cluster_usage_of : List (List ℕ) → Option ℕ
+cluster_usage_of [] = None
+cluster_usage_of (word ∷ words) =
+    if bytes_eq word (codes "serve") then after_counted most_clients words else (if bytes_eq word (codes "lead") then after_counted most_nodes words else None)

@@ -1,0 +1,13 @@
+//! The commands of a cluster, whose nodes and name nodes are processes: their words, a node that is
+//! served to clients, a name node, and the count of its folder's starts.
+#![tactic(auto)]
+
+mod cluster_command;
+mod lead_command;
+mod life;
+mod serve_command;
+
+pub use cluster_command::{ClusterCommand, read_cluster_command};
+pub use lead_command::lead_cluster;
+pub use life::count_start;
+pub use serve_command::serve_node_to;

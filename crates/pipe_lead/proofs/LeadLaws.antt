@@ -1,0 +1,509 @@
+-- A name node along the lines of its input.
+use Rattle.std.proofs.Common.{ℕ, ◌≡◌, ◌+◌, ◌^◌, ◌<◌, ◌≤◌, ◌==◌, List, [], ◌∷◌, ◌++◌, map, length, take, drop, Option, Some, None, Bool, true}
+use Rattle.std.proofs.Common.{false, cond, refl, sym, ap, ◌∙◌, subst, arith, length-append, append-nil, append_assoc, inl, inr}
+use Rattle.std.specs.Prelude.{codes}
+use Rattle.std.specs.Io.KnownBytes.{Appends, Consumes, prepend_known}
+use Rattle.std.proofs.KnownBytes.{Appends-nil, Appends-trans, Consumes-nil, Consumes-trans}
+use Rattle.std.proofs.Math.Seq.{take-append_seam, take-append-add, drop-append_seam, get_or-append_seam}
+use Rattle.base_outside.specs.Whole.{TakesFront}
+use Rattle.journal_history.specs.declared.record.Record.{Record}
+use Rattle.journal_session.specs.Lines.{IsLine, lines_text}
+use Rattle.journal_session.specs.Reader.{LineReaderView, to_come, IsNextLine, IsEmptied}
+use Rattle.journal_session.specs.declared.next.Next.{Next}
+use Rattle.journal_session.specs.declared.next.Next.TheVariants as next
+use Rattle.mesh.specs.Makers.{IsOfChores}
+use Rattle.play_script.specs.declared.script_line.ScriptLine.{ScriptLine}
+use Rattle.play_calls.specs.Logs.{LogView, new_log}
+use Rattle.play_model.specs.Lines.{Action, Line, Declares, Acts, Operates, line_of, actions_of, AreActions}
+use Rattle.play_model.specs.Actor.{last_of}
+use Rattle.play_model.specs.Actions.{ActorView, new_actor_view, has_names, kept_by, action_of, TakesIf, IsIdleActor}
+use Rattle.play_model.specs.KeptActor.{KeptActor}
+use Rattle.play_model.specs.Laws.{LedIsMade}
+use Rattle.play_model.specs.Scripts.{ScriptsArePlayable}
+use Rattle.play_threads.specs.Threads.{is_by, TakesOwn, HasDone}
+use Rattle.play_threads.proofs.ActorLaws.{done_first, done_next, done_follows, new_named}
+use Rattle.pipe_seats.specs.Piped.{PipesView, AreLater, new_seats}
+use Rattle.pipe_seats.specs.LaterLaws.{later_same, later_on}
+use Rattle.pipe_seats.proofs.PipeLaws.{text_snoc}
+use Rattle.pipe_lead.specs.declared.answer.Answer.{Answer}
+use Rattle.pipe_lead.specs.declared.answer.Answer.TheVariants as answer
+use Rattle.pipe_lead.specs.declared.lead_end.LeadEnd.{LeadEnd}
+use Rattle.pipe_lead.specs.declared.lead_end.LeadEnd.TheVariants as lead_end
+use Rattle.pipe_lead.specs.Inputs.{Step, Took, Passed, Refused, IsStepOf, TakesStep, IsAnsweredBy, IsTaken}
+use Rattle.pipe_lead.specs.Leads.{refusal_text, answer_text, AreTold, none, took, passed, refused, taken_in, AreStepsOf, IsWithRolls, no_line, its_line, one_roll, IsWritten}
+use Rattle.pipe_lead.specs.Leads.{IsAnsweredAs, IsAnswered, IsAnsweredInTime, tells_all, IsLong, EndsAt, HasLed, Leads, IfLasts, end_of}
+use Rattle.pipe_lead.proofs.TakeLaws.{IsOwnAction, own_by, own_action}
+
+-- ## One line more
+steps_snoc : (n : ℕ) (lines : List (List ℕ)) (steps : List Step) (line : List ℕ) (step : Step) → AreStepsOf n lines steps → IsStepOf n line step
+    → AreStepsOf n (lines ++ line ∷ []) (steps ++ step ∷ [])
+steps_snoc n [] [] line step h k = (k, tt)
+steps_snoc n [] (s ∷ steps) line step h k = absurd h
+steps_snoc n (l ∷ lines) [] line step h k = absurd h
+steps_snoc n (l ∷ lines) (s ∷ steps) line step h k = (h.0, steps_snoc n lines steps line step h.1 k)
+
+-- what a line adds to the lines that were taken
+abbrev added : Step → List ScriptLine
+added (Took line) = line ∷ []
+added Passed = []
+added (Refused rule) = []
+
+taken_snoc : (steps : List Step) (step : Step) → taken_in (steps ++ step ∷ []) ≡ taken_in steps ++ added step
+taken_snoc [] (Took line) = refl
+taken_snoc [] Passed = refl
+taken_snoc [] (Refused rule) = refl
+taken_snoc (Took l ∷ steps) step = ap (λ ls. l ∷ ls) (taken_snoc steps step)
+taken_snoc (Passed ∷ steps) step = taken_snoc steps step
+taken_snoc (Refused rule ∷ steps) step = taken_snoc steps step
+
+owns : (n : ℕ) (b : Bool) (o : Option (ℕ × Action)) (old new : KeptActor) → b ≡ true → TakesIf n o old new → TakesOwn b n o old new
+owns n true o old new e h = h
+owns n false o old new e h = absurd (cc e)
+
+done_line : (n : ℕ) (ls : List ScriptLine) (line : ScriptLine) (old new : KeptActor) → HasDone true n (actions_of 0 (map line_of ls)) old → is_by 0 (action_of (line_of line)) ≡ true
+    → TakesIf n (action_of (line_of line)) old new → HasDone true n (actions_of 0 (map line_of (ls ++ line ∷ []))) new
+done_line n ls line old new h own t =
+    let items : List ScriptLine = ls ++ line ∷ [] in
+    let low : length ls < length items = omega (arith, length-append ls (line ∷ [])) in
+    let all : take (length ls + 1) items ≡ items = take-append-add ls (line ∷ []) 1 in
+    let so : HasDone true n (actions_of 0 (map line_of (take (length ls) items))) old =
+    subst (λ (xs : List ScriptLine). HasDone true n (actions_of 0 (map line_of xs)) old) (sym (take-append_seam ls (line ∷ []))) h in
+    subst (λ (xs : List ScriptLine). HasDone true n (actions_of 0 (map line_of xs)) new) all
+    (done_next true n 0 items (length ls) line old new low (sym (get_or-append_seam ls line [] line)) so (owns n (is_by 0 (action_of (line_of line))) (action_of (line_of line)) old new own t))
+
+done_step : (n : ℕ) (steps : List Step) (text : List ℕ) (step : Step) (old new : KeptActor) → HasDone true n (actions_of 0 (map line_of (taken_in steps))) old → IsStepOf n text step
+    → TakesStep n step old new → HasDone true n (actions_of 0 (map line_of (taken_in (steps ++ step ∷ [])))) new
+done_step n steps text (Took line) old new h is t =
+    subst (λ (xs : List ScriptLine). HasDone true n (actions_of 0 (map line_of xs)) new) (sym (taken_snoc steps (Took line)))
+    (done_line n (taken_in steps) line old new h (own_by line is.is_own.own) t)
+done_step n steps text Passed old new h is t =
+    subst (λ (xs : List ScriptLine). HasDone true n (actions_of 0 (map line_of xs)) new) (sym (taken_snoc steps Passed ∙ append-nil (taken_in steps)))
+    (subst (λ (k : KeptActor). HasDone true n (actions_of 0 (map line_of (taken_in steps))) k) (sym t) h)
+done_step n steps text (Refused rule) old new h is t =
+    subst (λ (xs : List ScriptLine). HasDone true n (actions_of 0 (map line_of xs)) new) (sym (taken_snoc steps (Refused rule) ∙ append-nil (taken_in steps)))
+    (subst (λ (k : KeptActor). HasDone true n (actions_of 0 (map line_of (taken_in steps))) k) (sym t) h)
+
+-- what is told of it
+told_step : (n : ℕ) (steps : List Step) (text : List ℕ) (step : Step) (of : Answer) (old new : KeptActor) (more : List Record) → AreTold n steps old text → IsAnsweredBy of step
+    → TakesStep n step old new → new.past ≡ old.past ++ more → AreTold n (steps ++ step ∷ []) new (text ++ answer_text of more)
+told_step n steps text (Took l) answer.Results old new more h a t e = took steps old new more text l h t e
+told_step n steps text (Took l) answer.Nothing old new more h a t e = absurd a
+told_step n steps text (Took l) (answer.Broken rule) old new more h a t e = absurd a
+told_step n steps text Passed answer.Nothing old new more h a t e =
+    subst (λ (k : KeptActor). AreTold n (steps ++ Passed ∷ []) k (text ++ [])) (sym t)
+    (subst (λ (x : List ℕ). AreTold n (steps ++ Passed ∷ []) old x) (sym (append-nil text)) (passed steps old text h))
+told_step n steps text Passed answer.Results old new more h a t e = absurd a
+told_step n steps text Passed (answer.Broken rule) old new more h a t e = absurd a
+told_step n steps text (Refused by) (answer.Broken rule) old new more h a t e =
+    subst (λ (k : KeptActor). AreTold n (steps ++ Refused by ∷ []) k (text ++ refusal_text rule)) (sym t)
+    (subst (λ (x : ℕ). AreTold n (steps ++ Refused by ∷ []) old (text ++ refusal_text x)) a (refused steps old text by h))
+told_step n steps text (Refused by) answer.Results old new more h a t e = absurd a
+told_step n steps text (Refused by) answer.Nothing old new more h a t e = absurd a
+
+-- ## What is written
+front_after : (a b c : Option (List ℕ)) (xs ys : List ℕ) → Appends a b xs → TakesFront b c ys → TakesFront a c (xs ++ ys)
+front_after a b c xs ys h k = (length xs + k.0, subst (λ (zs : List ℕ). Appends a c zs) (sym (take-append-add xs ys k.0)) (Appends-trans a b c xs (take k.0 ys) h k.1))
+
+written_more : (whole : Bool) (a b c : Option (List ℕ)) (xs ys : List ℕ) → IsWritten true a b xs → IsWritten whole b c ys → IsWritten whole a c (xs ++ ys)
+written_more true a b c xs ys h k = Appends-trans a b c xs ys h k
+written_more false a b c xs ys h k = front_after a b c xs ys h k
+
+-- ## So far
+-- so many lines of the input were read
+pub record LedSoFar (n : ℕ) (actor : ActorView) (first now : PipesView) (given left before after : Option (List ℕ)) (whole : Bool) (count : ℕ) : Type 0 where
+  pub input : List (List ℕ)
+  pub counted : length input ≡ count
+  pub lines : List (List ℕ)
+  pub put_in : IsWithRolls input lines
+  pub steps : List Step
+  pub read : Consumes given left (lines_text input)
+  pub are : AreStepsOf n lines steps
+  pub done : HasDone true n (actions_of 0 (map line_of (taken_in steps))) (kept_by actor now.log)
+  pub text : List ℕ
+  pub told : AreTold n steps (kept_by actor now.log) text
+  pub written : IsWritten whole before after text
+  pub named : has_names actor ≡ true
+  pub later : AreLater first now
+
+pub led_first : (n : ℕ) (v : ActorView) (s : PipesView) (given before : Option (List ℕ)) → 1 ≤ n → v ≡ new_actor_view true n → s.log ≡ new_log n true
+    → LedSoFar n v s s given given before before true 0
+led_first n v s given before some e f = record {
+  input = [];
+  counted = refl;
+  lines = [];
+  put_in = no_line;
+  steps = [];
+  read = Consumes-nil given;
+  are = tt;
+  done = done_first true n 0 [] v s.log some e f;
+  text = [];
+  told = subst (λ (k : KeptActor). AreTold n [] k []) (sym (ap (λ (x : ActorView). kept_by x s.log) e ∙ ap (kept_by (new_actor_view true n)) f)) none;
+  written = Appends-nil before;
+  named = ap has_names e ∙ new_named true n;
+  later = later_same s;
+}
+
+-- one line was answered, of the input or put in
+led_more : (n : ℕ) (whole : Bool) (line : List ℕ) (v w : ActorView) (first s t : PipesView) (given mid left a b c : Option (List ℕ)) (count sum : ℕ) (input : List (List ℕ)) → s.log.nodes ≡ n
+    → (h : LedSoFar n v first s given mid a b true count) → IsAnsweredAs whole line v s w t b c → length input ≡ sum → IsWithRolls input (h.lines ++ line ∷ [])
+    → Consumes given left (lines_text input) → LedSoFar n w first t given left a c whole sum
+led_more n whole line v w first s t given mid left a b c count sum input nodes h k counted put_in read =
+    let taken : IsTaken n line k.of (kept_by v s.log) (kept_by w t.log) = subst (λ (m : ℕ). IsTaken m line k.of (kept_by v s.log) (kept_by w t.log)) nodes k.taken in
+    let more : List Record = drop (length s.log.past) t.log.past in
+    let past : t.log.past ≡ s.log.past ++ more =
+    k.later.past ∙ ap (λ (rs : List Record). s.log.past ++ rs) (sym (drop-append_seam s.log.past k.later.lines) ∙ ap (drop (length s.log.past)) (sym k.later.past)) in
+    record {
+      input = input;
+      counted = counted;
+      lines = h.lines ++ line ∷ [];
+      put_in = put_in;
+      steps = h.steps ++ taken.step ∷ [];
+      read = read;
+      are = steps_snoc n h.lines h.steps line taken.step h.are taken.is;
+      done = done_step n h.steps line taken.step (kept_by v s.log) (kept_by w t.log) h.done taken.is taken.takes;
+      text = h.text ++ answer_text k.of more;
+      told = told_step n h.steps h.text taken.step k.of (kept_by v s.log) (kept_by w t.log) more h.told taken.answered taken.takes past;
+      written = written_more whole a b c h.text (answer_text k.of more) h.written k.written;
+      named = k.named;
+      later = later_on first s t h.later k.later;
+    }
+
+pub led_next : (n : ℕ) (whole : Bool) (line : List ℕ) (v w : ActorView) (first s t : PipesView) (given mid left a b c : Option (List ℕ)) (count : ℕ) → s.log.nodes ≡ n
+    → LedSoFar n v first s given mid a b true count → IsAnsweredAs whole line v s w t b c → Consumes mid left (line ++ 10 ∷ []) → LedSoFar n w first t given left a c whole (count + 1)
+led_next n whole line v w first s t given mid left a b c count nodes h k read =
+    led_more n whole line v w first s t given mid left a b c count (count + 1) (h.input ++ line ∷ []) nodes h k (omega (arith, length-append h.input (line ∷ []), h.counted))
+    (its_line h.input h.lines line h.put_in)
+    (subst (λ (x : List ℕ). Consumes given left x) (text_snoc h.input line) (Consumes-trans given mid left (lines_text h.input) (line ++ 10 ∷ []) h.read read))
+
+pub led_rolled : (n : ℕ) (whole : Bool) (v w : ActorView) (first s t : PipesView) (given left a b c : Option (List ℕ)) (count : ℕ) → s.log.nodes ≡ n → LedSoFar n v first s given left a b true count
+    → IsAnsweredAs whole (codes "roll") v s w t b c → LedSoFar n w first t given left a c whole count
+led_rolled n whole v w first s t given left a b c count nodes h k =
+    led_more n whole (codes "roll") v w first s t given left left a b c count count h.input nodes h k h.counted (one_roll h.input h.lines h.put_in) h.read
+
+-- ## At its end
+-- what a reader held when it was let go was read, too
+let_go : (r q : LineReaderView) (a b : Option (List ℕ)) (xs : List ℕ) → r.held ≡ [] → Consumes (to_come r a) (to_come q b) xs → Consumes a b (xs ++ q.held)
+let_go r q None b xs e h = tt
+let_go r q (Some x) None xs e h = absurd h
+let_go r q (Some x) (Some y) xs e h = ap (λ (l : List ℕ). l ++ x) (sym e) ∙ h ∙ sym (append_assoc xs q.held y)
+
+-- the lines were told whole, or a front of them where a write failed
+pub has_led : (end : LeadEnd) (n : ℕ) (v : ActorView) (first s : PipesView) (r q : LineReaderView) (given left a b : Option (List ℕ)) (count : ℕ) → r.held ≡ []
+    → (h : LedSoFar n v first s (to_come r given) (to_come q left) a b (tells_all end) count) → EndsAt end h.input q.held left → HasLed n v s.log given left a b end
+has_led end n v first s r q given left a b count e h ends = record {
+  input = h.input;
+  lines = h.lines;
+  put_in = h.put_in;
+  steps = h.steps;
+  rest = q.held;
+  read = let_go r q given left (lines_text h.input) e h.read;
+  ends = ends;
+  are = h.are;
+  done = h.done;
+  text = h.text;
+  told = h.told;
+  written = h.written;
+}
+
+-- some bytes more were read
+led_rest : (end : LeadEnd) (n : ℕ) (v : ActorView) (first s : PipesView) (r q p : LineReaderView) (given mid left a b : Option (List ℕ)) (count : ℕ) (bytes : List ℕ)
+    → tells_all end ≡ true → r.held ≡ [] → (h : LedSoFar n v first s (to_come r given) (to_come q mid) a b true count)
+    → Consumes (to_come q mid) (to_come p left) bytes → EndsAt end h.input (bytes ++ p.held) left → HasLed n v s.log given left a b end
+led_rest end n v first s r q p given mid left a b count bytes all e h more ends = record {
+  input = h.input;
+  lines = h.lines;
+  put_in = h.put_in;
+  steps = h.steps;
+  rest = bytes ++ p.held;
+  read = subst (λ (x : List ℕ). Consumes given left x) (append_assoc (lines_text h.input) bytes p.held)
+      (let_go r p given left (lines_text h.input ++ bytes) e (Consumes-trans (to_come r given) (to_come q mid) (to_come p left) (lines_text h.input) bytes h.read more));
+  ends = ends;
+  are = h.are;
+  done = h.done;
+  text = h.text;
+  told = h.told;
+  written = subst (λ (w : Bool). IsWritten w a b h.text) (sym all) h.written;
+}
+
+-- nothing is held at the end, and the last line has no LF
+line_alone : (line : List ℕ) (p : LineReaderView) (left : Option (List ℕ)) → IsLine line → IsEmptied p left → IsLine (line ++ p.held)
+line_alone line p left one h = subst (λ (x : List ℕ). IsLine x) (sym (ap (λ (x : List ℕ). line ++ x) h.held ∙ append-nil line)) one
+
+-- where there is no next line; of an input that is counted anew no line comes too late
+pub ends_at : (of : Next) (end : LeadEnd) (line : List ℕ) (n : ℕ) (v : ActorView) (first s : PipesView) (r q p : LineReaderView) (given mid left a b : Option (List ℕ)) (count : ℕ) → r.held ≡ []
+    → LedSoFar n v first s (to_come r given) (to_come q mid) a b true count → q.taken ≡ 0 → IsNextLine of line q p mid left → end_of of ≡ Some end → IfLasts end (HasLed n v s.log given left a b end)
+ends_at next.Line end line n v first s r q p given mid left a b count e h z k is = absurd (cc is)
+ends_at next.Last end line n v first s r q p given mid left a b count e h z k is =
+    let same : lead_end.Done ≡ end = cc is in
+    subst (λ (x : LeadEnd). IfLasts x (HasLed n v s.log given left a b x)) same
+    (led_rest lead_end.Done n v first s r q p given mid left a b count line refl e h k.0.given (line_alone line p left k.0.one k.2, k.2.end))
+ends_at next.End end line n v first s r q p given mid left a b count e h z k is =
+    let same : lead_end.Done ≡ end = cc is in
+    subst (λ (x : LeadEnd). IfLasts x (HasLed n v s.log given left a b x)) same
+    (led_rest lead_end.Done n v first s r q p given mid left a b count [] refl e h k.0.given (line_alone [] p left tt k.1, k.1.end))
+ends_at next.LongLine end line n v first s r q p given mid left a b count e h z k is =
+    let same : lead_end.LongLine ≡ end = cc is in
+    let long : IsLong p.held = record { front = k.1.front; behind = k.1.behind; spelled = k.1.spelled; one = k.1.one; long = k.1.long } in
+    subst (λ (x : LeadEnd). IfLasts x (HasLed n v s.log given left a b x)) same
+    (led_rest lead_end.LongLine n v first s r q p given mid left a b count [] refl e h k.0.given (inl long))
+ends_at next.LongInput end line n v first s r q p given mid left a b count e h z k is = absurd (omega (arith, z, k.0.taken, k.0.all, k.1.short))
+ends_at next.ReadFault end line n v first s r q p given mid left a b count e h z k is =
+    let same : lead_end.ReadFault ≡ end = cc is in
+    subst (λ (x : LeadEnd). IfLasts x (HasLed n v s.log given left a b x)) same
+    (led_rest lead_end.ReadFault n v first s r q p given mid left a b count [] refl e h k.0.given k.1.one)
+ends_at next.OutOfMemory end line n v first s r q p given mid left a b count e h z k is =
+    let same : lead_end.OutOfMemory ≡ end = cc is in
+    subst (λ (x : LeadEnd). IfLasts x (HasLed n v s.log given left a b x)) same tt
+
+pub later_at : (end : LeadEnd) (first s : PipesView) → AreLater first s → IfLasts end (AreLater first s)
+later_at lead_end.Done first s h = h
+later_at lead_end.LongLine first s h = h
+later_at lead_end.ReadFault first s h = h
+later_at lead_end.WriteFault first s h = h
+later_at lead_end.OutOfMemory first s h = tt
+
+-- where a line ends it
+pub ends_with : (of : LeadEnd) (line : List ℕ) (n : ℕ) (v w : ActorView) (first s t : PipesView) (r q p : LineReaderView) (given mid left a b c : Option (List ℕ)) (count : ℕ) → r.held ≡ []
+    → s.log.nodes ≡ n → LedSoFar n v first s (to_come r given) (to_come q mid) a b true count → IsAnswered (Some of) line v s w t b c
+    → Consumes (to_come q mid) (to_come p left) (line ++ 10 ∷ []) → IfLasts of (HasLed n w t.log given left a c of)
+ends_with lead_end.Done line n v w first s t r q p given mid left a b c count e nodes h k read = absurd k
+ends_with lead_end.LongLine line n v w first s t r q p given mid left a b c count e nodes h k read = absurd k
+ends_with lead_end.ReadFault line n v w first s t r q p given mid left a b c count e nodes h k read = absurd k
+ends_with lead_end.WriteFault line n v w first s t r q p given mid left a b c count e nodes h k read =
+    has_led lead_end.WriteFault n w first t r p given left a c (count + 1) e
+    (led_next n false line v w first s t (to_come r given) (to_come q mid) (to_come p left) a b c count nodes h k read) tt
+ends_with lead_end.OutOfMemory line n v w first s t r q p given mid left a b c count e nodes h k read = tt
+
+-- where the roll that is put in ends it
+pub ends_rolled : (of : LeadEnd) (n : ℕ) (v w : ActorView) (first s t : PipesView) (r q : LineReaderView) (given left a b c : Option (List ℕ)) (count : ℕ) → r.held ≡ [] → s.log.nodes ≡ n
+    → LedSoFar n v first s (to_come r given) (to_come q left) a b true count → IsAnswered (Some of) (codes "roll") v s w t b c → IfLasts of (HasLed n w t.log given left a c of)
+ends_rolled lead_end.Done n v w first s t r q given left a b c count e nodes h k = absurd k
+ends_rolled lead_end.LongLine n v w first s t r q given left a b c count e nodes h k = absurd k
+ends_rolled lead_end.ReadFault n v w first s t r q given left a b c count e nodes h k = absurd k
+ends_rolled lead_end.WriteFault n v w first s t r q given left a b c count e nodes h k =
+    has_led lead_end.WriteFault n w first t r q given left a c count e (led_rolled n false v w first s t (to_come r given) (to_come q left) a b c count nodes h k) tt
+ends_rolled lead_end.OutOfMemory n v w first s t r q given left a b c count e nodes h k = tt
+
+pub later_with : (of : LeadEnd) (line : List ℕ) (v w : ActorView) (first s t : PipesView) (b c : Option (List ℕ)) → AreLater first s
+    → IsAnswered (Some of) line v s w t b c → IfLasts of (AreLater first t)
+later_with lead_end.Done line v w first s t b c h k = absurd k
+later_with lead_end.LongLine line v w first s t b c h k = absurd k
+later_with lead_end.ReadFault line v w first s t b c h k = absurd k
+later_with lead_end.WriteFault line v w first s t b c h k = later_on first s t h k.later
+later_with lead_end.OutOfMemory line v w first s t b c h k = tt
+
+-- ## One line
+pub past_grows : (s t : PipesView) (from : ℕ) → from ≡ length s.log.past → AreLater s t → from ≤ length t.log.past
+past_grows s t from e h =
+    let more : length t.log.past ≡ length s.log.past + length h.lines = ap length h.past ∙ length-append s.log.past h.lines in
+    omega (arith, e, more)
+
+written_text : (whole : Bool) (of : Answer) (s t : PipesView) (a b : Option (List ℕ)) (from : ℕ) (text : List ℕ) → from ≡ length s.log.past → text ≡ answer_text of (drop from t.log.past)
+    → IsWritten whole a b text → IsWritten whole a b (answer_text of (drop (length s.log.past) t.log.past))
+written_text whole of s t a b from text e is h =
+    subst (λ (n : ℕ). IsWritten whole a b (answer_text of (drop n t.log.past))) e (subst (λ (x : List ℕ). IsWritten whole a b x) is h)
+
+pub answered_well : (of : Answer) (line : List ℕ) (v w : ActorView) (s t : PipesView) (a b : Option (List ℕ)) (from : ℕ) (text : List ℕ)
+    → IsTaken s.log.nodes line of (kept_by v s.log) (kept_by w t.log) → has_names w ≡ true → AreLater s t → from ≡ length s.log.past
+    → text ≡ answer_text of (drop from t.log.past) → Appends a b text → IsAnswered None line v s w t a b
+answered_well of line v w s t a b from text taken named later e is h =
+    record { of = of; taken = taken; named = named; later = later; written = written_text true of s t a b from text e is h }
+
+pub answered_ill : (of : Answer) (line : List ℕ) (v w : ActorView) (s t : PipesView) (a b : Option (List ℕ)) (from : ℕ) (text : List ℕ)
+    → IsTaken s.log.nodes line of (kept_by v s.log) (kept_by w t.log) → has_names w ≡ true → AreLater s t → from ≡ length s.log.past
+    → text ≡ answer_text of (drop from t.log.past) → TakesFront a b text → IsAnswered (Some lead_end.WriteFault) line v s w t a b
+answered_ill of line v w s t a b from text taken named later e is h =
+    record { of = of; taken = taken; named = named; later = later; written = written_text false of s t a b from text e is h }
+
+pub ruleset one_line = (past_grows, answered_well, answered_ill)
+
+-- ## Line after line
+-- an actor that was idle is idle after a line
+if_idle : (n : ℕ) (o : Option (ℕ × Action)) (old new : KeptActor) → IsIdleActor n old → TakesIf n o old new → IsIdleActor n new
+if_idle n None old new h t = subst (λ (k : KeptActor). IsIdleActor n k) (sym t) h
+if_idle n (Some d) old new h t = t.idle
+
+step_idle : (n : ℕ) (step : Step) (old new : KeptActor) → IsIdleActor n old → TakesStep n step old new → IsIdleActor n new
+step_idle n (Took line) old new h t = if_idle n (action_of (line_of line)) old new h t
+step_idle n Passed old new h t = subst (λ (k : KeptActor). IsIdleActor n k) (sym t) h
+step_idle n (Refused rule) old new h t = subst (λ (k : KeptActor). IsIdleActor n k) (sym t) h
+
+pub answered_idle : (line : List ℕ) (v w : ActorView) (s t : PipesView) (a b : Option (List ℕ)) → IsIdleActor s.log.nodes (kept_by v s.log) → IsAnsweredAs true line v s w t a b
+    → IsIdleActor t.log.nodes (kept_by w t.log)
+answered_idle line v w s t a b h k =
+    subst (λ (n : ℕ). IsIdleActor n (kept_by w t.log)) (sym k.later.nodes) (step_idle s.log.nodes k.taken.step (kept_by v s.log) (kept_by w t.log) h k.taken.takes)
+
+pub answered_named : (line : List ℕ) (v w : ActorView) (s t : PipesView) (a b : Option (List ℕ)) → IsAnsweredAs true line v s w t a b → has_names w ≡ true
+answered_named line v w s t a b k = k.named
+
+pub not_rolled : (of : Option LeadEnd) (line : List ℕ) (v w : ActorView) (s t : PipesView) (a b : Option (List ℕ)) → IsAnswered of line v s w t a b → IsAnsweredInTime of line v s w t a b
+not_rolled of line v w s t a b h = inl h
+
+pub rolled : (of : Option LeadEnd) (line : List ℕ) (v u w : ActorView) (s r t : PipesView) (a b d : Option (List ℕ)) → IsAnsweredAs true line v s u r a b → IsAnswered of (codes "roll") u r w t b d
+    → IsAnsweredInTime of line v s w t a d
+rolled of line v u w s r t a b d h k = inr (record { actor = u; seats = r; told = b; first = h; roll = k })
+
+pub ruleset in_time = (answered_idle, answered_named, not_rolled, rolled)
+
+-- a reader before its first byte
+abbrev pub fresh_reader : LineReaderView
+fresh_reader = record { held = []; taken = 0; line = [] }
+
+pub lines_first : (v : ActorView) (s : PipesView) (r : LineReaderView) (given before : Option (List ℕ)) → 1 ≤ s.log.nodes → v ≡ new_actor_view true s.log.nodes
+    → s.log ≡ new_log s.log.nodes true → r.held ≡ []
+    → LedSoFar s.log.nodes v s s (to_come fresh_reader given) (to_come r given) before before true 0
+lines_first v s r given before some e f none_held =
+    subst (λ (x : Option (List ℕ)). LedSoFar s.log.nodes v s s (to_come fresh_reader given) x before before true 0) (ap (λ (l : List ℕ). prepend_known l given) (sym none_held))
+    (led_first s.log.nodes v s (to_come fresh_reader given) before some e f)
+
+pub so_idle : (v : ActorView) (first s : PipesView) (given left a b : Option (List ℕ)) (count : ℕ) → LedSoFar first.log.nodes v first s given left a b true count
+    → IsIdleActor s.log.nodes (kept_by v s.log)
+so_idle v first s given left a b count h = subst (λ (n : ℕ). IsIdleActor n (kept_by v s.log)) (sym h.later.nodes) h.done.idle
+
+pub so_named : (v : ActorView) (first s : PipesView) (given left a b : Option (List ℕ)) (count : ℕ) → LedSoFar first.log.nodes v first s given left a b true count → has_names v ≡ true
+so_named v first s given left a b count h = h.named
+
+-- a line came
+line_came : (of : Next) (line : List ℕ) (q p : LineReaderView) (mid left : Option (List ℕ)) → end_of of ≡ None → IsNextLine of line q p mid left → IsNextLine next.Line line q p mid left
+line_came next.Line line q p mid left e h = h
+line_came next.Last line q p mid left e h = absurd (cc e)
+line_came next.End line q p mid left e h = absurd (cc e)
+line_came next.LongLine line q p mid left e h = absurd (cc e)
+line_came next.LongInput line q p mid left e h = absurd (cc e)
+line_came next.ReadFault line q p mid left e h = absurd (cc e)
+line_came next.OutOfMemory line q p mid left e h = absurd (cc e)
+
+given_line : (of : Next) (line : List ℕ) (q p : LineReaderView) (mid left : Option (List ℕ)) → IsNextLine of p.line q p mid left → end_of of ≡ None → line ≡ p.line
+    → Consumes (to_come q mid) (to_come p left) (line ++ 10 ∷ [])
+given_line of line q p mid left k e is =
+    subst (λ (l : List ℕ). Consumes (to_come q mid) (to_come p left) (l ++ 10 ∷ [])) (sym is) (line_came of p.line q p mid left e k).given
+
+-- one line more, and maybe a roll behind it
+pub lines_next : (of : Next) (line : List ℕ) (v w : ActorView) (first s t : PipesView) (q p n : LineReaderView) (given mid left a b c : Option (List ℕ)) (count : ℕ)
+    → LedSoFar first.log.nodes v first s (to_come fresh_reader given) (to_come q mid) a b true count → IsNextLine of p.line q p mid left → end_of of ≡ None
+    → n.held ≡ p.held → line ≡ p.line → IsAnsweredInTime None line v s w t b c
+    → LedSoFar first.log.nodes w first t (to_come fresh_reader given) (to_come n left) a c true (count + 1)
+lines_next of line v w first s t q p n given mid left a b c count h k came held is answered =
+    subst (λ (l : List ℕ). LedSoFar first.log.nodes w first t (to_come fresh_reader given) (prepend_known l left) a c true (count + 1)) (sym held) (by answered)
+  where
+    taken : Consumes (to_come q mid) (to_come p left) (line ++ 10 ∷ [])
+    taken = given_line of line q p mid left k came is
+
+    by : IsAnsweredInTime None line v s w t b c → LedSoFar first.log.nodes w first t (to_come fresh_reader given) (to_come p left) a c true (count + 1)
+    by (inl one) =
+        led_next first.log.nodes true line v w first s t (to_come fresh_reader given) (to_come q mid) (to_come p left) a b c count h.later.nodes h one taken
+    by (inr two) =
+        let so = led_next first.log.nodes true line v two.actor first s two.seats (to_come fresh_reader given) (to_come q mid) (to_come p left) a b two.told count h.later.nodes h two.first taken in
+        led_rolled first.log.nodes true two.actor w first two.seats t (to_come fresh_reader given) (to_come p left) a two.told c (count + 1) so.later.nodes so two.roll
+
+-- no line more
+pub lines_end : (of : Next) (end : LeadEnd) (line : List ℕ) (v : ActorView) (first s : PipesView) (q p : LineReaderView) (given mid left a b : Option (List ℕ)) (count : ℕ)
+    → LedSoFar first.log.nodes v first s (to_come fresh_reader given) (to_come q mid) a b true count → q.taken ≡ 0 → IsNextLine of line q p mid left → end_of of ≡ Some end
+    → IfLasts end (HasLed first.log.nodes v s.log given left a b end)
+lines_end of end line v first s q p given mid left a b count h z k is = ends_at of end line first.log.nodes v first s fresh_reader q p given mid left a b count refl h z k is
+
+pub lines_later : (end : LeadEnd) (v : ActorView) (first s : PipesView) (given left a b : Option (List ℕ)) (count : ℕ) → LedSoFar first.log.nodes v first s given left a b true count
+    → IfLasts end (AreLater first s)
+lines_later end v first s given left a b count h = later_at end first s h.later
+
+-- a line, or the roll behind it, ends it
+pub lines_cut : (got : Next) (of : LeadEnd) (line : List ℕ) (v w : ActorView) (first s t : PipesView) (q p : LineReaderView) (given mid left a b c : Option (List ℕ)) (count : ℕ)
+    → LedSoFar first.log.nodes v first s (to_come fresh_reader given) (to_come q mid) a b true count → IsNextLine got p.line q p mid left → end_of got ≡ None → line ≡ p.line
+    → IsAnsweredInTime (Some of) line v s w t b c → IfLasts of (HasLed first.log.nodes w t.log given left a c of)
+lines_cut got of line v w first s t q p given mid left a b c count h k came is answered = by answered
+  where
+    taken : Consumes (to_come q mid) (to_come p left) (line ++ 10 ∷ [])
+    taken = given_line got line q p mid left k came is
+
+    by : IsAnsweredInTime (Some of) line v s w t b c → IfLasts of (HasLed first.log.nodes w t.log given left a c of)
+    by (inl one) = ends_with of line first.log.nodes v w first s t fresh_reader q p given mid left a b c count refl h.later.nodes h one taken
+    by (inr two) =
+        let so = led_next first.log.nodes true line v two.actor first s two.seats (to_come fresh_reader given) (to_come q mid) (to_come p left) a b two.told count h.later.nodes h two.first taken in
+        ends_rolled of first.log.nodes two.actor w first two.seats t fresh_reader p given left a two.told c (count + 1) refl so.later.nodes so two.roll
+
+pub lines_cut_later : (of : LeadEnd) (line : List ℕ) (v w : ActorView) (first s t : PipesView) (given left a b c : Option (List ℕ)) (count : ℕ)
+    → LedSoFar first.log.nodes v first s given left a b true count → IsAnsweredInTime (Some of) line v s w t b c → IfLasts of (AreLater first t)
+lines_cut_later of line v w first s t given left a b c count h (inl one) = later_with of line v w first s t b c h.later one
+lines_cut_later of line v w first s t given left a b c count h (inr two) =
+    later_with of (codes "roll") two.actor w first two.seats t two.told c (later_on first s two.seats h.later two.first.later) two.roll
+
+-- the lines that a process can count came to their end
+pub lines_out : (v : ActorView) (first s : PipesView) (q : LineReaderView) (given left a b : Option (List ℕ)) (count : ℕ)
+    → LedSoFar first.log.nodes v first s (to_come fresh_reader given) (to_come q left) a b true count → 2 ^ 64 ≤ count + 1
+    → HasLed first.log.nodes v s.log given left a b lead_end.LongLine
+lines_out v first s q given left a b count h many =
+    has_led lead_end.LongLine first.log.nodes v first s fresh_reader q given left a b count refl h (inr (omega (arith, many, h.counted)))
+
+pub lines_out_later : (v : ActorView) (first s : PipesView) (given left a b : Option (List ℕ)) (count : ℕ) → LedSoFar first.log.nodes v first s given left a b true count → AreLater first s
+lines_out_later v first s given left a b count h = h.later
+
+pub ruleset line_by_line = (lines_first, so_idle, so_named, lines_next, lines_end, lines_later, lines_cut, lines_cut_later, lines_out, lines_out_later)
+
+-- ## A whole life
+pub leads : (end : LeadEnd) (n : ℕ) (v : ActorView) (l : LogView) (given left a b : Option (List ℕ)) → HasLed n v l given left a b end → Leads n l given left a b end
+leads end n v l given left a b h =
+    record { actor = v; has = h; last = last_of v.holds; follows = done_follows true n (actions_of 0 (map line_of (taken_in h.steps))) v l (last_of v.holds) h.done refl }
+
+actions_more : (l : Line) (ls : List Line) → IsOwnAction true (action_of l) → AreActions true (actions_of 0 ls) → AreActions true (actions_of 0 (l ∷ ls))
+unfolding AreActions actions_of
+actions_more (Declares name) ls h k = k
+actions_more (Operates node ask) ls h k = k
+actions_more (Acts actor action) ls h k = by (actor == 0)
+  where
+    by : (b : Bool) → AreActions true (cond b (action ∷ actions_of 0 ls) (actions_of 0 ls))
+    by true = (h, k)
+    by false = k
+
+no_actions : AreActions true (actions_of 0 [])
+unfolding AreActions actions_of
+no_actions = tt
+
+are_actions : (n : ℕ) (lines : List (List ℕ)) (steps : List Step) → ScriptsArePlayable → AreStepsOf n lines steps → AreActions true (actions_of 0 (map line_of (taken_in steps)))
+are_actions n [] [] playable h = no_actions
+are_actions n [] (s ∷ steps) playable h = absurd h
+are_actions n (l ∷ lines) [] playable h = absurd h
+are_actions n (l ∷ lines) (Took line ∷ steps) playable h = actions_more (line_of line) (map line_of (taken_in steps)) (own_action n l line playable h.0) (are_actions n lines steps playable h.1)
+are_actions n (l ∷ lines) (Passed ∷ steps) playable h = are_actions n lines steps playable h.1
+are_actions n (l ∷ lines) (Refused rule ∷ steps) playable h = are_actions n lines steps playable h.1
+
+pub led_made : (end : LeadEnd) (n : ℕ) (l : LogView) (given left a b : Option (List ℕ)) → ScriptsArePlayable → LedIsMade → Leads n l given left a b end → IsOfChores n l.past
+led_made end n l given left a b playable law h =
+    law true n (actions_of 0 (map line_of (taken_in h.has.steps))) l.past (are_actions n h.has.lines h.has.steps playable h.has.are) (h.follows (record { name = []; last = h.last }) refl).led
+
+-- ## A life that begins
+pub begun_some : (s : PipesView) (n life : ℕ) → s ≡ new_seats n life → 1 ≤ n → 1 ≤ s.log.nodes
+begun_some s n life e some = subst (λ (x : PipesView). 1 ≤ x.log.nodes) (sym e) some
+
+pub begun_new : (v : ActorView) (s : PipesView) (n life : ℕ) → s ≡ new_seats n life → v ≡ new_actor_view true n → v ≡ new_actor_view true s.log.nodes
+begun_new v s n life e new = new ∙ ap (λ (x : PipesView). new_actor_view true x.log.nodes) (sym e)
+
+pub begun_log : (s : PipesView) (n life : ℕ) → s ≡ new_seats n life → s.log ≡ new_log s.log.nodes true
+begun_log s n life e = subst (λ (x : PipesView). x.log ≡ new_log x.log.nodes true) (sym e) refl
+
+-- what is known of each end that isn't for want of memory
+if_lasts : (of : LeadEnd) (P Q : Type 0) → (P → Q) → IfLasts of P → IfLasts of Q
+if_lasts lead_end.Done P Q f h = f h
+if_lasts lead_end.LongLine P Q f h = f h
+if_lasts lead_end.ReadFault P Q f h = f h
+if_lasts lead_end.WriteFault P Q f h = f h
+if_lasts lead_end.OutOfMemory P Q f h = tt
+
+of_life : (of : LeadEnd) (s t : PipesView) (v : ActorView) (n life : ℕ) (given left a b : Option (List ℕ)) → s ≡ new_seats n life → IfLasts of (HasLed s.log.nodes v t.log given left a b of)
+    → IfLasts of (HasLed n v t.log given left a b of)
+of_life of s t v n life given left a b e h = subst (λ (x : PipesView). IfLasts of (HasLed x.log.nodes v t.log given left a b of)) e h
+
+pub life_leads : (of : LeadEnd) (s t : PipesView) (v : ActorView) (n life : ℕ) (given left a b : Option (List ℕ)) → s ≡ new_seats n life → IfLasts of (HasLed s.log.nodes v t.log given left a b of)
+    → IfLasts of (Leads n t.log given left a b of)
+life_leads of s t v n life given left a b e h =
+    if_lasts of (HasLed n v t.log given left a b of) (Leads n t.log given left a b of) (leads of n v t.log given left a b) (of_life of s t v n life given left a b e h)
+
+pub life_made : (of : LeadEnd) (s t : PipesView) (v : ActorView) (n life : ℕ) (given left a b : Option (List ℕ)) → ScriptsArePlayable → LedIsMade → s ≡ new_seats n life
+    → IfLasts of (HasLed s.log.nodes v t.log given left a b of) → IfLasts of (IsOfChores n t.log.past)
+life_made of s t v n life given left a b playable law e h =
+    if_lasts of (HasLed n v t.log given left a b of) (IsOfChores n t.log.past)
+    (λ k. led_made of n t.log given left a b playable law (leads of n v t.log given left a b k)) (of_life of s t v n life given left a b e h)
+
+pub life_piped : (of : LeadEnd) (s t : PipesView) (n life : ℕ) → s ≡ new_seats n life → IfLasts of (AreLater s t) → IfLasts of (AreLater (new_seats n life) t)
+life_piped of s t n life e h = subst (λ (x : PipesView). IfLasts of (AreLater x t)) e h
+
+pub ruleset whole_life = (begun_some, begun_new, begun_log, life_leads, life_made, life_piped)

@@ -1,0 +1,14 @@
+//! A name node in a process of its own: the lines of its input are taken one by one, over pipes to
+//! the nodes, and their results written as soon as they are known.
+#![tactic(auto)]
+
+mod answer;
+mod inputs;
+mod lead_end;
+mod leading;
+mod line_text;
+mod results;
+
+pub use answer::Answer;
+pub use lead_end::LeadEnd;
+pub use leading::{lead, lead_lines};

@@ -1,0 +1,78 @@
+-- A caller's seats over pipes: what was written to each node and read of it is what the record
+-- lists.
+use Rattle.std.specs.Prelude.{◌≡◌, ℕ, ◌+◌, ◌<◌, true, List, [], ◌∷◌, ◌++◌, length, replicate, slice_index_or}
+use Rattle.journal_core.specs.declared.request.Request.{Request}
+use Rattle.journal_core.specs.declared.heard.Heard.{Heard}
+use Rattle.journal_core.specs.declared.heard.Heard.TheVariants.{Answer, Silent}
+use Rattle.journal_history.specs.declared.node_ask.NodeAnswer.{NodeAnswer}
+use Rattle.journal_history.specs.declared.record.Record.{Record}
+use Rattle.journal_history.specs.declared.record.Record.TheVariants.{Call, Late, Operator, Outcome}
+use Rattle.journal_history.specs.declared.record.Told.{Told}
+use Rattle.journal_history.specs.declared.record.Told.TheVariants as told
+use Rattle.play_calls.specs.declared.delivery.Delivery.{Delivery}
+use Rattle.play_calls.specs.Deliveries.{told_of}
+use Rattle.mesh.specs.Marks.{next_number, IsAsMarked}
+use Rattle.mesh.specs.Makers.{heard_of}
+use Rattle.play_calls.specs.Logs.{LogView, new_log, with_line}
+use Rattle.pipe_seats.specs.Calls.{PipeView, unopened, IsCalledAt}
+
+-- what contracts see of the seats: the pipe to each node, and what was listed
+pub record PipesView : Type 0 where
+  pub pipes : List PipeView
+  pub log : LogView
+
+-- of so many nodes, in this life of a caller who made no call
+abbrev pub new_seats : ℕ → ℕ → PipesView
+new_seats nodes life = record { pipes = replicate nodes (unopened life); log = new_log nodes true }
+
+-- what is told of a call that goes so, whatever was heard
+pub record IsTold (delivery : Delivery) (t : Told) : Type 0 where
+  pub answer : NodeAnswer
+  pub is : t ≡ told_of delivery answer
+
+-- what a call did to the pipe of its node, by what was told of it
+abbrev pub WentAs : Request → Told → PipeView → PipeView → Type 0
+WentAs r (told.Reply reply) old new = IsCalledAt old new r (Answer reply)
+WentAs r told.Silent old new = IsCalledAt old new r Silent
+WentAs r told.Muted old new = (heard : Heard) × IsCalledAt old new r heard
+WentAs r told.Dropped old new = new ≡ old
+
+-- A call over the pipe of its node: it was told as the marks say, and listed.
+pub record IsCalledOver (old new : LogView) (before after : PipeView) (node : ℕ) (r : Request) (heard : Heard) : Type 0 where
+  pub told_so : Told
+  pub hears : heard ≡ heard_of told_so
+  pub as_marked : IsAsMarked old.marks node (next_number node old.past) told_so
+  pub listed : new ≡ with_line old (Call node r told_so)
+  pub went : WentAs r told_so before after
+
+-- the line of the record reached this node, or would have but for a mark
+abbrev pub IsOf : ℕ → Record → Type 0
+IsOf node (Call k r t) = k ≡ node
+IsOf node (Late k r) = k ≡ node
+IsOf node (Operator k ask done) = ⊥
+IsOf node (Outcome text) = ⊥
+
+abbrev pub WentBy : Record → PipeView → PipeView → Type 0
+WentBy (Call k r t) old new = WentAs r t old new
+WentBy (Late k r) old new = (heard : Heard) × IsCalledAt old new r heard
+WentBy (Operator k ask done) old new = new ≡ old
+WentBy (Outcome text) old new = new ≡ old
+
+-- what a line of the record did to the pipe of this node; a line of another node did nothing to it
+pub record Did (node : ℕ) (line : Record) (old new : PipeView) : Type 0 where
+  pub here : IsOf node line → WentBy line old new
+  pub elsewhere : (IsOf node line → ⊥) → new ≡ old
+
+-- what these lines did to it, one after the other
+abbrev pub Goes : ℕ → List Record → PipeView → PipeView → Type 0
+Goes node [] old new = new ≡ old
+Goes node (line ∷ lines) old new = (between : PipeView) × Did node line old between × Goes node lines between new
+
+-- The second seats are the first ones some lines later: to each node's pipe came what these lines
+-- say, and nothing else.
+pub record AreLater (old new : PipesView) : Type 0 where
+  pub nodes : new.log.nodes ≡ old.log.nodes
+  pub count : length new.pipes ≡ length old.pipes
+  pub lines : List Record
+  pub past : new.log.past ≡ old.log.past ++ lines
+  pub pipes : (i : ℕ) (d : PipeView) → i < length old.pipes → Goes (i + 1) lines (slice_index_or old.pipes i d) (slice_index_or new.pipes i d)

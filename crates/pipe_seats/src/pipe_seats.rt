@@ -1,0 +1,266 @@
+//! A caller's seats over pipes.
+ghost use Rattle.std.specs.Prelude.{◌≡◌, ◌≤◌, ℕ, Some, IfOk, OnOk, OnErr, replicate};
+ghost use Rattle.journal_core.specs.Peers.{FitsHeard};
+ghost use Rattle.journal_history.specs.declared.record.Record.TheVariants.{Late};
+ghost use Rattle.mesh.specs.Makers.{heard_of};
+ghost use Rattle.play_calls.specs.Logs.{copy_call, earlier_call};
+ghost use Rattle.pipe_seats.specs.Calls.{unopened, IsCalledAt};
+ghost use Rattle.pipe_seats.specs.Piped.{new_seats, IsTold, WentAs, WentBy, IsCalledOver};
+
+use crate::dialer::{Dialer, call_at};
+use crate::line_room::LineRoom;
+use crate::node_pipe::NodePipe;
+use crate::opener::Opener;
+use base_outside::{Sink, Source};
+use journal_core::{Bytes, Heard, OutOfMemory, Peers, SharedRequest};
+use journal_history::{Record, Told};
+use play_calls::{CallerLog, Delivery, Seats, heard_of};
+use std::alloc::{AllocError, Global};
+use std::marker::Model;
+
+/// A call over the pipe to this node.
+fn call_shared<S: Source + Drop, K: Sink + Drop, O: Opener<S, K>>(
+    alloc: Global,
+    dialer: &mut Dialer<O>,
+    pipe: &mut NodePipe<S, K>,
+    node: usize,
+    request: &SharedRequest,
+) -> Result<Heard, OutOfMemory>
+    requires low { 1 ≤ node }
+    ensures called { IfOk result (λ heard. IsCalledAt pipe.old pipe.new request.now heard) }
+    ensures fits { IfOk result (λ heard. FitsHeard request.now heard) }
+{
+    call_at(alloc, dialer, pipe, node, request.get())
+}
+
+/// The call goes over the pipe, where it is delivered; what its caller is told. What is heard of
+/// that fits the request.
+#[tactic(auto, using(crate::proofs::SeatLaws::calls))]
+fn deliver<S: Source + Drop, K: Sink + Drop, O: Opener<S, K>>(
+    alloc: Global,
+    dialer: &mut Dialer<O>,
+    pipe: &mut NodePipe<S, K>,
+    node: usize,
+    delivery: Delivery,
+    request: &SharedRequest,
+) -> Result<Told, OutOfMemory>
+    requires low { 1 ≤ node }
+    ensures told { IfOk result (λ told. IsTold delivery told) }
+    ensures fits { IfOk result (λ told. FitsHeard request.now (heard_of told)) }
+    ensures went { IfOk result (λ told. WentAs request.now told pipe.old pipe.new) }
+{
+    match delivery {
+        Delivery::NotDelivered => Ok(Told::Dropped),
+        Delivery::ReplyLost => {
+            let _ = call_shared(alloc, dialer, pipe, node, request)?;
+            Ok(Told::Muted)
+        }
+        Delivery::Delivered => match call_shared(alloc, dialer, pipe, node, request)? {
+            Heard::Answer(reply) => Ok(Told::Reply(reply)),
+            Heard::Silent => Ok(Told::Silent),
+        },
+    }
+}
+
+/// A call over the pipe, listed with what it was told.
+fn call_over<S: Source + Drop, K: Sink + Drop, O: Opener<S, K>>(
+    alloc: Global,
+    dialer: &mut Dialer<O>,
+    pipe: &mut NodePipe<S, K>,
+    log: &mut CallerLog,
+    node: usize,
+    request: SharedRequest,
+) -> Result<Heard, OutOfMemory>
+    requires low { 1 ≤ node }
+    requires high { node ≤ log.old.nodes }
+    ensures called { IfOk result (λ heard. IsCalledOver log.old log.new pipe.old pipe.new node request heard) }
+    ensures fits { IfOk result (λ heard. FitsHeard request heard) }
+    ensures nodes { log.new.nodes ≡ log.old.nodes }
+    ensures unlisted { OnErr result (log.new.past ≡ log.old.past) }
+{
+    let delivery = log.delivery(node)?;
+    let told = deliver(alloc, dialer, pipe, node, delivery, &request)?;
+    let Ok(heard) = heard_of(alloc, &told) else {
+        log.spoil();
+        return Err(AllocError);
+    };
+    log.call(node, request, told)?;
+    Ok(heard)
+}
+
+/// A copy of an earlier call over the pipe; its reply is read and goes to nobody.
+#[tactic(auto, using(crate::proofs::SeatLaws::calls))]
+fn copy_over<S: Source + Drop, K: Sink + Drop, O: Opener<S, K>>(
+    alloc: Global,
+    dialer: &mut Dialer<O>,
+    pipe: &mut NodePipe<S, K>,
+    log: &mut CallerLog,
+    node: usize,
+    number: u64,
+    request: SharedRequest,
+) -> Result<(), OutOfMemory>
+    requires low { 1 ≤ node }
+    requires high { node ≤ log.old.nodes }
+    requires from_one { 1 ≤ number }
+    requires made { earlier_call log.old node number ≡ Some request }
+    ensures went { OnOk result (WentBy (Late node request) pipe.old pipe.new) }
+    ensures ok { OnOk result (log.new ≡ copy_call log.old node number request) }
+    ensures nodes { log.new.nodes ≡ log.old.nodes }
+{
+    let _ = call_shared(alloc, dialer, pipe, node, &request)?;
+    log.copy(node, number, request)?;
+    Ok(())
+}
+
+/// A caller's seats at nodes that stand at the far ends of pipes, numbered from 1, and what it
+/// lists of the calls that it makes over them.
+#[derive(Drop)]
+pub struct PipeSeats<S: Source, K: Sink, O> {
+    pipes: Vec<NodePipe<S, K>>,
+    log: CallerLog,
+    dialer: Dialer<O>,
+}
+
+impl<S: Source, K: Sink, O> Model for PipeSeats<S, K, O> {
+    ghost use Rattle.std.specs.Prelude.{◌≡◌, length};
+    ghost use Rattle.pipe_seats.specs.Piped.{PipesView};
+
+    ghost Value = { PipesView };
+
+    ghost view = { λ s. record { pipes = s.pipes.items; log = s.log } };
+
+    ghost invariant = { λ s. length s.pipes.items ≡ s.log.nodes };
+}
+
+/// A pipe to each of so many nodes, before its first opening.
+fn unopened_pipes<S: Source + Drop, K: Sink + Drop>(
+    alloc: Global,
+    nodes: usize,
+    life: u64,
+) -> Result<Vec<NodePipe<S, K>>, OutOfMemory>
+    ensures { IfOk result (λ pipes. pipes.items ≡ replicate nodes (unopened life)) }
+{
+    let mut pipes = Vec::with_capacity(alloc, nodes)?;
+    for _ in 0..nodes {
+        pipes.push(NodePipe::unopened(life))?;
+    }
+    Ok(pipes)
+}
+
+impl<S: Source + Drop, K: Sink + Drop, O: Opener<S, K> + Drop> PipeSeats<S, K, O> {
+    /// Seats over pipes to so many nodes, in this life of a caller who made no call. None of the
+    /// pipes is open yet.
+    pub fn new(
+        alloc: Global,
+        nodes: usize,
+        life: u64,
+        opener: O,
+    ) -> Result<PipeSeats<S, K, O>, OutOfMemory>
+        ensures { IfOk result (λ seats. seats ≡ new_seats nodes life) }
+    {
+        let pipes = unopened_pipes(alloc, nodes, life)?;
+        let log = CallerLog::new(alloc, nodes)?;
+        let room = LineRoom::new(alloc);
+        Ok(PipeSeats {
+            pipes,
+            log,
+            dialer: Dialer { opener, room },
+        })
+    }
+
+    /// What was listed.
+    pub fn records(&self) -> &[Record]
+        ensures { result.now ≡ self.now.log.past }
+    {
+        self.log.records()
+    }
+}
+
+impl<S: Source + Drop, K: Sink + Drop, O: Opener<S, K> + Drop> Peers for PipeSeats<S, K, O> {
+    ghost use Rattle.play_calls.specs.Logs.{calls_in};
+    ghost use Rattle.pipe_seats.specs.LaterLaws.{AreCalled, called_none, called_on};
+
+    ghost calls = { λ s. calls_in s.log.past };
+
+    ghost nodes = { λ s. s.log.nodes };
+
+    ghost called = { λ old new. AreCalled old new };
+
+    fn nodes(&self) -> usize {
+        self.log.nodes()
+    }
+
+    fn call(
+        &mut self,
+        alloc: Global,
+        node: usize,
+        request: SharedRequest,
+    ) -> Result<Heard, OutOfMemory> {
+        call_over(
+            alloc,
+            &mut self.dialer,
+            &mut self.pipes[node - 1],
+            &mut self.log,
+            node,
+            request,
+        )
+    }
+
+    ghost called_none = { called_none };
+
+    ghost called_on = { called_on };
+}
+
+impl<S: Source + Drop, K: Sink + Drop, O: Opener<S, K> + Drop> Seats for PipeSeats<S, K, O> {
+    ghost use Rattle.std.specs.Prelude.{refl};
+    ghost use Rattle.pipe_seats.specs.Piped.{AreLater};
+    ghost use Rattle.pipe_seats.specs.LaterLaws.{later_same, later_on};
+
+    ghost log = { λ s. s.log };
+
+    ghost later = { λ old new. AreLater old new };
+
+    #[tactic(auto, using(crate::specs::LaterLaws::seats))]
+    fn mark(&mut self, node: usize, next: u64, mute: bool) -> Result<(), OutOfMemory> {
+        if mute {
+            self.log.mute_next(node, next)
+        } else {
+            self.log.drop_next(node, next)
+        }
+    }
+
+    #[tactic(auto, using(crate::specs::LaterLaws::seats))]
+    fn late(&mut self, alloc: Global, node: usize, number: u64) -> Result<bool, OutOfMemory> {
+        let Some(request) = self.log.earlier(node, number)? else {
+            return Ok(false);
+        };
+        copy_over(
+            alloc,
+            &mut self.dialer,
+            &mut self.pipes[node - 1],
+            &mut self.log,
+            node,
+            number,
+            request,
+        )?;
+        Ok(true)
+    }
+
+    fn say(&mut self, text: Bytes) -> Result<(), OutOfMemory> {
+        self.log.say(text)
+    }
+
+    ghost later_same = { later_same };
+
+    ghost later_on = { later_on };
+
+    ghost later_nodes = { λ r s h. h.nodes };
+
+    ghost calls_are = { λ s. refl };
+
+    ghost nodes_are = { λ s. refl };
+
+    ghost called_lists = { λ r s h. h.1 };
+
+    ghost called_later = { λ r s h. h.0 };
+}

@@ -1,0 +1,4 @@
+pub mod InputLaws
+pub mod LineLaws
+pub mod SessionLaws
+pub mod SharedLaws

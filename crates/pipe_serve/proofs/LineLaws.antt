@@ -1,0 +1,83 @@
+-- One line of a session.
+use Rattle.std.proofs.Common.{ℕ, zero, suc, ◌≡◌, List, [], ◌∷◌, ◌++◌, Option, Some, None, ◌⊎◌, inl, inr, refl, sym, subst}
+use Rattle.std.specs.Prelude.{take}
+use Rattle.std.specs.Io.KnownBytes.{Appends}
+use Rattle.std.proofs.KnownBytes.{Appends-nil}
+use Rattle.base_outside.specs.Faults.{Rose}
+use Rattle.base_outside.specs.Whole.{TakesFront}
+use Rattle.journal_core.specs.declared.request.Request.{Request}
+use Rattle.journal_core.specs.declared.reply.Reply.{Reply}
+use Rattle.journal_text.specs.Reading.{reading_of}
+use Rattle.journal_text.specs.declared.request_line.ReadRequest.TheVariants.{Read, Bad}
+use Rattle.disk_node.specs.Node.{IsNoFault}
+use Rattle.pipe_lines.specs.Tagged.{IsTagged, tagged}
+use Rattle.pipe_serve.specs.declared.session_end.SessionEnd.{SessionEnd}
+use Rattle.pipe_serve.specs.declared.session_end.SessionEnd.TheVariants as session_end
+use Rattle.pipe_serve.specs.Sessions.{Answered, SinkUse, reply_line, refusal, IsAsked, IsAskedWell, IsFaultOf, IsServed, IsServedWell, IsCutShort, IsTurnedAway, IsUnwritten, IsFaulted, IsForgotten}
+
+-- nothing was written of a text
+pub front_none : (b : Option (List ℕ)) (bytes : List ℕ) → TakesFront b b bytes
+front_none b bytes = (0, Appends-nil b)
+
+pub ruleset unsaid = (front_none)
+
+module _ {N : Type 0} (Asked : N → Request → Reply → N → Type 0) where
+  -- ## It isn't asked
+  pub turned_away : (line : List ℕ) (n : N) (sink : SinkUse) → (IsTagged line → ⊥) → TakesFront sink.had sink.has refusal → IsServed Asked (Some session_end.Over) line n n sink
+  turned_away line n sink none front =
+      record { part = take front.0 refusal; written = front.1; ends = inl (record { no_call = inl none; same = refl; said = (front.0, refl) }) }
+
+  pub turned_away_text : (line text : List ℕ) (life call rule : ℕ) (n : N) (sink : SinkUse) → line ≡ tagged life call text → reading_of text ≡ Bad rule → TakesFront sink.had sink.has refusal
+      → IsServed Asked (Some session_end.Over) line n n sink
+  turned_away_text line text life call rule n sink is bad front =
+      record { part = take front.0 refusal; written = front.1; ends = inl (record { no_call = inr (life, call, text, rule, is, bad); same = refl; said = (front.0, refl) }) }
+
+  pub forgotten_unasked : (line : List ℕ) (n : N) (sink : SinkUse) → Appends sink.had sink.has [] → IsServed Asked (Some session_end.OutOfMemory) line n n sink
+  forgotten_unasked line n sink none = record { part = []; written = none; ends = record { asked = inl refl; said = refl } }
+
+  -- ## It is asked
+  module _ (life call : ℕ) (text : List ℕ) (r : Request) (reply : Reply) (old new : N) (sink : SinkUse) (reads : reading_of text ≡ Read r) (asked : Asked old r reply new) where
+    it : IsAsked Asked text reply old new
+    it = record { request = r; reads = reads; asked = asked }
+
+    pub asked_forgotten : Appends sink.had sink.has [] → IsServed Asked (Some session_end.OutOfMemory) (tagged life call text) old new sink
+    asked_forgotten none = record { part = []; written = none; ends = record { asked = inr (text, reply, it); said = refl } }
+
+    pub asked_fault : (end : SessionEnd) → IsFaultOf end reply → Appends sink.had sink.has [] → IsServed Asked (Some end) (tagged life call text) old new sink
+    asked_fault session_end.Over is none = absurd is
+    asked_fault session_end.DiskFault is none = record {
+      part = [];
+      written = none;
+      ends = record { life = life; call = call; text = text; is = refl; asked = subst (λ (a : Reply). IsAsked Asked text a old new) is it; said = refl };
+    }
+    asked_fault session_end.OutOfMemory is none = asked_forgotten none
+
+    pub asked_unwritten : (bytes : List ℕ) → IsNoFault reply → bytes ≡ reply_line life call reply → TakesFront sink.had sink.has bytes → Rose sink.before sink.now
+        → IsServed Asked (Some session_end.Over) (tagged life call text) old new sink
+    asked_unwritten bytes fine is front rose = record {
+      part = take front.0 bytes;
+      written = front.1;
+      ends = inr (record {
+        answered = record { life = life; call = call; text = text; reply = reply };
+        is = refl;
+        asked = record { asked = it; fine = fine };
+        said = subst (λ (l : List ℕ). (n : ℕ) × (take front.0 bytes ≡ take n l)) is (front.0, refl);
+        fault = rose;
+      });
+    }
+
+    pub asked_well : (bytes : List ℕ) → IsNoFault reply → bytes ≡ reply_line life call reply → Appends sink.had sink.has bytes → sink.now ≡ sink.before
+        → IsServed Asked None (tagged life call text) old new sink
+    asked_well bytes fine is written whole = record {
+      answered = record { life = life; call = call; text = text; reply = reply };
+      is = refl;
+      asked = record { asked = it; fine = fine };
+      written = subst (λ (l : List ℕ). Appends sink.had sink.has l) is written;
+      whole = whole;
+    }
+
+  -- the line is the call's
+  pub served_as : (of : Option SessionEnd) (line said : List ℕ) (old new : N) (sink : SinkUse) → line ≡ said → IsServed Asked of said old new sink → IsServed Asked of line old new sink
+  served_as of line said old new sink is h = subst (λ (l : List ℕ). IsServed Asked of l old new sink) (sym is) h
+
+pub ruleset serves = (turned_away, turned_away_text, forgotten_unasked, asked_forgotten, asked_fault, asked_unwritten, asked_well, served_as, Appends-nil)

@@ -1,0 +1,31 @@
+//! A session of tagged lines at a node in memory.
+use base_outside::{MemSink, MemSource, OutOfMemory};
+use journal_step::PlainNode;
+use pipe_serve::serve_session;
+use std::alloc::Global;
+
+/// What is written where a fresh node is asked these lines.
+fn answers_to(alloc: Global, requests: &[u8]) -> Result<Vec<u8>, OutOfMemory> {
+    let mut source = MemSource::new(requests.to_vec(alloc)?, Vec::new(alloc));
+    let mut sink = MemSink::new(alloc, 1000, Vec::new(alloc))?;
+    let mut node = PlainNode::new(alloc);
+    let _ = serve_session(alloc, &mut node, &mut source, &mut sink);
+    sink.bytes().to_vec(alloc)
+}
+
+#[test]
+fn tagged_requests_are_answered(rt: HostRuntime) {
+    let Ok(answers) = answers_to(rt.alloc(), b"#1 1 new 1 .\n#1 2 state .\n") else {
+        return;
+    };
+    let wanted = b"#1 1 new none .\n#1 2 state 1 .\n".as_slice();
+    assert!(rt; answers.as_slice() == wanted);
+}
+
+#[test]
+fn cut_requests_are_none(rt: HostRuntime) {
+    let Ok(answers) = answers_to(rt.alloc(), b"#1 1 new 1 .\n#1 2 new#1 3 new 2 .\n") else {
+        return;
+    };
+    assert!(rt; answers.as_slice() == b"#1 1 new none .\nbad\n".as_slice());
+}

@@ -1,0 +1,9 @@
+pub mod RunLaws
+pub mod Refusals
+pub mod DiskLaws
+pub mod BeginLaws
+pub mod TailLaws
+pub mod LogLaws
+pub mod KeepLaws
+pub mod ImageLaws
+pub mod NodeLaws

@@ -1,0 +1,32 @@
+//! A line at its first space, and at its arrow.
+use memchr::memchr;
+
+/// Whether the byte `>` stands in the line. Each line of a history has one, and no line beside a
+/// history.
+pub(crate) fn has_arrow(line: &[u8]) -> bool {
+    memchr(b'>', line).is_some()
+}
+
+/// What stands before and after the arrow, the first `>` of which is the line's first; `None` where
+/// the line has no such arrow.
+pub(crate) fn cut_arrow(line: &[u8]) -> Option<(&[u8], &[u8])> {
+    let at = memchr(b'>', line)?;
+    if at < 2 || line.len() < at + 2 {
+        return None;
+    }
+    let (asked, rest) = line.split_at(at - 2);
+    let (mark, told) = rest.split_at(4);
+    if mark == b" -> ".as_slice() {
+        Some((asked, told))
+    } else {
+        None
+    }
+}
+
+/// What stands before and after the first byte of this kind; `None` where there is none.
+pub(crate) fn cut_at(byte: u8, text: &[u8]) -> Option<(&[u8], &[u8])> {
+    match memchr(byte, text) {
+        Some(at) => Some((&text[..at], &text[at + 1..])),
+        None => None,
+    }
+}

@@ -1,0 +1,42 @@
+//! A line of a node's history.
+ghost use Rattle.std.specs.Prelude.{◌≤◌, length};
+
+use crate::answers::read_answer;
+use crate::asks::read_ask;
+use crate::callers::caller_of;
+use crate::cutting::{cut_arrow, cut_at};
+use crate::requests::Requests;
+use journal_core::OutOfMemory;
+use journal_history::HistoryLine;
+use ns_tree::End;
+
+/// The line of a history that the bytes say, without their LF; `None` where they say none. An `Err`
+/// is lack of memory.
+pub(crate) fn read_history_line<'a>(
+    requests: &mut Requests<'a>,
+    ends: &[End],
+    line: &'a [u8],
+) -> Result<Option<HistoryLine>, OutOfMemory>
+    requires { length ends.now ≤ 8 }
+{
+    let Some((name, rest)) = cut_at(b' ', line) else {
+        return Ok(None);
+    };
+    let Some(caller) = caller_of(ends, name) else {
+        return Ok(None);
+    };
+    let Some((asked, answered)) = cut_arrow(rest) else {
+        return Ok(None);
+    };
+    let Some(ask) = read_ask(requests, asked)? else {
+        return Ok(None);
+    };
+    let Some(answer) = read_answer(requests.alloc(), &ask, answered)? else {
+        return Ok(None);
+    };
+    Ok(Some(HistoryLine {
+        caller,
+        ask,
+        answer,
+    }))
+}

@@ -1,0 +1,107 @@
+//! Requests that were read before.
+ghost use Rattle.std.specs.Prelude.{◌≡◌, IfOk, IfSome, MatchOption};
+ghost use Rattle.journal_text.specs.Reading.{reading_of};
+ghost use Rattle.journal_text.specs.declared.request_line.ReadRequest.TheVariants.{Read};
+ghost use Rattle.report_reading.specs.Lines.{request_in};
+
+use crate::kept::Kept;
+use journal_core::{OutOfMemory, SharedRequest};
+use journal_text::{ReadRequest, read_request};
+use std::alloc::{AllocError, Global};
+
+/// The most requests that are kept, a power of two.
+const MOST_PLACES: usize = 1 << 20;
+
+/// How many bytes of a report there are to a place.
+const BYTES_A_PLACE: usize = 256;
+
+/// The first bytes of a text, which tell its place: an epoch and a serial stand in them.
+const TELLING_BYTES: usize = 48;
+
+/// How far apart the places of texts are whose last telling byte differs, before they are cut to
+/// the places that there are.
+const STEP: u64 = 0x0100_0000_01B3;
+
+/// Requests with their texts. A report has a request in the history of each node that it reached,
+/// and once for each of them in its caller's record: it is read once, and shared. A request has its
+/// place by the first bytes of its text, until another one takes it.
+#[derive(Drop)]
+pub(crate) struct Requests<'a> {
+    alloc: Global,
+    places: Vec<Option<Kept<'a>>>,
+}
+
+impl<'a> Requests<'a> {
+    /// None, with room for those of a report of so many bytes.
+    pub(crate) fn new(alloc: Global, bytes: usize) -> Result<Requests<'a>, OutOfMemory> {
+        let count = (bytes / BYTES_A_PLACE + 1)
+            .min(MOST_PLACES)
+            .next_power_of_two();
+        let mut places = Vec::with_capacity(alloc, count)?;
+        for _ in 0..count {
+            places.push(None)?;
+        }
+        Ok(Requests { alloc, places })
+    }
+
+    /// Where what is read is kept.
+    pub(crate) fn alloc(&self) -> Global {
+        self.alloc
+    }
+
+    /// The place of a text.
+    fn place_of(&self, text: &[u8]) -> usize {
+        let mut key: u64 = 0;
+        for byte in text.iter().take(TELLING_BYTES) {
+            key = (key ^ u64::from(*byte)).wrapping_mul(STEP);
+        }
+        (key >> 20) as usize & self.places.len().saturating_sub(1)
+    }
+
+    /// The request of a text that is kept at this place.
+    fn kept_at(&self, place: usize, text: &[u8]) -> Option<&Kept<'a>>
+        ensures { IfSome result (λ kept. kept.now ≡ text.now) }
+    {
+        match self.places.get(place) {
+            Some(Some(kept)) => { if kept.is_of(text) { Some(kept) } else { None } }
+            _ => None,
+        }
+    }
+
+    /// Keeps a request with its text at this place.
+    fn keep(&mut self, place: usize, kept: Kept<'a>) {
+        if let Some(old) = self.places.get_mut(place) {
+            *old = Some(kept);
+        }
+    }
+
+    /// Reads a text, and keeps its request at this place.
+    fn read_new(
+        &mut self,
+        text: &'a [u8],
+        place: usize,
+    ) -> Result<Option<SharedRequest>, OutOfMemory>
+        ensures { IfOk result (λ found. found ≡ request_in (reading_of text.now)) }
+    {
+        match read_request(self.alloc, text) {
+            ReadRequest::Read(request) => {
+                let request = SharedRequest::new(self.alloc, request)?;
+                self.keep(place, Kept::of(text, request.share()?));
+                Ok(Some(request))
+            }
+            ReadRequest::Bad { .. } => Ok(None),
+            ReadRequest::OutOfMemory => Err(AllocError),
+        }
+    }
+
+    /// The request that the text says; `None` where it says none. An `Err` is lack of memory.
+    pub(crate) fn read(&mut self, text: &'a [u8]) -> Result<Option<SharedRequest>, OutOfMemory>
+        ensures { IfOk result (λ found. found ≡ request_in (reading_of text.now)) }
+    {
+        let place = self.place_of(text);
+        if let Some(kept) = self.kept_at(place, text) {
+            return Ok(Some(kept.share()?));
+        }
+        self.read_new(text, place)
+    }
+}
