@@ -6,11 +6,12 @@
 # The words that may stand at the cursor, behind those before it.
 _qjm_words() {
   case $COMP_CWORD,${COMP_WORDS[1]-} in
-    1,*) echo 'play run mirror boot gen node fsck judge oev oiv draw rules test help --build --version --help' ;;
-    2,help) echo 'play run mirror boot gen node fsck judge oev oiv draw rules test --build' ;;
+    1,*) echo 'play run mirror boot gen node serve lead cluster fsck judge oev oiv draw rules test help --build --version --help' ;;
+    2,help) echo 'play run mirror boot gen node serve lead cluster fsck judge oev oiv draw rules test --build' ;;
     2,oev) echo 'list stats json back' ;;
     2,oiv) echo 'delimited sizes json' ;;
     2,node) echo '--unchecked' ;;
+    2,cluster) echo 'up status log tell failover kill hold release down' ;;
     *,draw) echo '--svg --whole' ;;
   esac
 }

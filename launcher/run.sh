@@ -140,6 +140,21 @@ serve_node() {
   exit "$status"
 }
 
+# Serves a node to its clients, once the folder was checked as for `node`, or is a name node, of the proved program alone.
+run_in_cluster() {
+  is_proved || refuse_unbuilt "a cluster runs of the proved program alone"
+  if [ "$1" = serve ]; then
+    check_before_serving
+    is_taken || tell_fresh
+  fi
+  open_input node
+  run_program "$@"
+  # (it isn't asked once more for its fault line, which stands in its output)
+  output=/dev/null
+  [ "$status" -eq 0 ] || explain "$@"
+  exit "$status"
+}
+
 # Checks the current folder, of the proved program alone: a quick run sees no folder but its own.
 check_folder() {
   is_proved || refuse_unbuilt "a folder is checked by the proved program alone"

@@ -1,7 +1,7 @@
 # The words after ./qjm: which of them are a command's, and the help of each.
 
 # The program's commands, and those that the launcher answers itself.
-readonly PROGRAM_COMMANDS='play run mirror boot gen node oev oiv fsck judge' OWN_COMMANDS='draw rules test help'
+readonly PROGRAM_COMMANDS='play run mirror boot gen node serve lead oev oiv fsck judge' OWN_COMMANDS='draw cluster rules test help'
 readonly SEGMENT_LISTINGS='list stats json' IMAGE_LISTINGS='delimited sizes json'
 
 # The greatest number that a word may be.
@@ -56,6 +56,15 @@ place_in_gen() {
   fi
 }
 
+# The place of the first wrong word of `serve CLIENTS` or `lead NODES`, where the number is at most $1.
+place_in_counted() {
+  if ! is_number "${3-}" 1 "$1"; then
+    echo 1
+  elif [ $# -gt 3 ]; then
+    echo 2
+  fi
+}
+
 # The place of the first wrong word of a program's command, counted from 0, or how many there are where one is missing. Nothing
 # where the words are a command. The program's own rule is the same, and waits for no quick run here.
 wrong_place() {
@@ -65,6 +74,8 @@ wrong_place() {
     oev,*) place_in_listing "$SEGMENT_LISTINGS" "$@" ;;
     oiv,*) place_in_listing "$IMAGE_LISTINGS" "$@" ;;
     gen,*) place_in_gen "$@" ;;
+    serve,*) place_in_counted 64 "$@" ;;
+    lead,*) place_in_counted 15 "$@" ;;
     *) echo 0 ;;
   esac
 }
@@ -84,6 +95,8 @@ legal_words() {
     2oev,* | 2oiv,*) echo "the name of a file comes last" ;;
     3oev,back) echo "START is from 1 to $GREATEST, without a leading zero" ;;
     4oev,back) echo "EPOCH is from 1 to $GREATEST, without a leading zero" ;;
+    1serve,*) echo "CLIENTS is from 1 to 64" ;;
+    1lead,*) echo "NODES is from 1 to 15" ;;
     1gen,*) echo "NUMBER is from 0 to $GREATEST, without a leading zero" ;;
     2gen,*) echo "EDITS is from 0 to 10000, without a leading zero" ;;
     3gen,*) echo "NODES is from 1 to 15" ;;
