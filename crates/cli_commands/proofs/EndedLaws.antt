@@ -89,9 +89,9 @@ module _ (ended : Served) (s : Status) (mid : Option (List ℕ)) (u k : ℕ) (si
       let line = subst (λ (j : ℕ). WritesLine (line_at ended) (record sink { before = mid; faults_before = j; kept_before = k })) (same n) told.line in
       record { front = line.front; unless_failed = line.unless_failed; handed = λ f z. line.handed f (hands n z) }
 
-  pub session_told : (lines : List (List ℕ)) (next : Option (List ℕ)) (Trail : List (List ℕ) → Option (List ℕ) → Type 0) (source : SourceUse)
+  pub session_told : (lines : List (List ℕ)) (next : Option (List ℕ)) (Trail : List (List ℕ) → Option (List ℕ) → Served → Option (List ℕ) → Type 0) (source : SourceUse)
       (old new : Option NodeState) (tells_now : Type 0) (disk_now : View)
-      → Trail lines next → IsSessionOf lines next ended source.told source.left old new sink.before mid
+      → Trail lines next ended mid → IsSessionOf lines next ended source.told source.left old new sink.before mid
       → (ended ≡ served.ReadFault → AReadFailed source) → (ended ≢ served.ReadFault → NoReadFailed source)
       → (ended ≡ served.WriteFault → Rose sink.faults_before u) → (ended ≢ served.WriteFault → u ≡ sink.faults_before)
       → (ended ≢ served.WriteFault → sink.kept_before ≡ 0 → k ≡ 0)

@@ -17,10 +17,10 @@ use Rattle.journal_session.specs.declared.served.Served.TheVariants as served
 use Rattle.journal_history.proofs.CellCode.{step_up}
 use Rattle.cli_commands.specs.declared.status.Status.{Status}
 use Rattle.cli_commands.specs.Uses.{SourceUse, SinkUse, DiskUse}
-use Rattle.cli_commands.specs.Serving.{IsNodeSessionOf, ServesNode}
+use Rattle.cli_commands.specs.Serving.{AreReplied, IsNodeSessionOf, ServesNode}
 use Rattle.cli_commands.specs.Crashes.{OutlastsCrashes, WasAsked}
 use Rattle.cli_commands.specs.NodeEnds.{IsKept, ServesFrom}
-use Rattle.cli_commands.proofs.CrashLaws.{outlasts}
+use Rattle.cli_commands.proofs.CrashLaws.{replied_from, outlasts}
 
 -- ## A session leaves a node up or down, as it was
 answered_up : (s t : NodeState) (lines : List (List ℕ)) (text : List ℕ) → AreAnswered s lines text t → t.up ≡ s.up
@@ -93,10 +93,10 @@ opened_told files false v m rows t now is = absurd t
 -- the session from the state that the files stood for
 module _ {D : Type 0} (disk : DiskUse D) (o : Served) (before now : Option (List ℕ)) (lines : List (List ℕ)) (next : Option (List ℕ)) where
   held : (v : View) (m : NodeState) (rows : List SegmentRow) (is : IsOpenedNode (disk.view disk.before).seen v m rows) (told left : Option (List ℕ)) (new : Option NodeState)
-      → OutlastsCrashes disk.view disk.before disk.now (restarted is.state) lines next
+      → OutlastsCrashes disk.view disk.before disk.now (restarted is.state) lines next → AreReplied (restarted is.state) lines next o before now
       → IsSessionOf lines next o told left (Some (restarted is.state)) new before now → ((t : NodeState) → new ≡ Some t → IsKept (disk.view disk.now) t)
       → (t : NodeState) × IsKept (disk.view disk.now) t → IsNodeSessionOf disk o told left before now
-  held v m rows is None left new crashes session kept stands = record {
+  held v m rows is None left new crashes replied session kept stands = record {
     state = is.state;
     stood = is.stood;
     sound = is.up.held.sound;
@@ -106,10 +106,11 @@ module _ {D : Type 0} (disk : DiskUse D) (o : Served) (before now : Option (List
     stands = stands.1.stands;
     lines = lines;
     next = next;
+    replied = replied;
     crashes = crashes;
   }
-  held v m rows is (Some told) left None crashes session kept stands = absurd session
-  held v m rows is (Some told) left (Some t) crashes session kept stands = record {
+  held v m rows is (Some told) left None crashes replied session kept stands = absurd session
+  held v m rows is (Some told) left (Some t) crashes replied session kept stands = record {
     state = is.state;
     stood = is.stood;
     sound = is.up.held.sound;
@@ -128,7 +129,7 @@ pub serves_opened : {D : Type 0} (disk : DiskUse D) (b : Bool) (n : NodeParts D)
     → (disk.tells disk.before → T b) → (disk.tells disk.before → disk.tells n.disk) → (disk.tells disk.before → IsSound (disk.view n.disk)) → (disk.tells disk.before → tells_now)
     → (disk.tells disk.before → IsOpenedNode (disk.view disk.before).seen (disk.view n.disk) n.memory n.rows)
     → (disk.tells disk.before → LeavesOnly (disk.view disk.before) (disk.view n.disk) (StandsAsBefore (disk.view disk.before)))
-    → ServesFrom (WasAsked disk.tells disk.view n disk.now) (told_state b (disk.view n.disk).seen n.memory n.rows) tells_now (disk.view disk.now) source sink s
+    → ServesFrom (WasAsked disk.tells disk.view n disk.now sink.before) (told_state b (disk.view n.disk).seen n.memory n.rows) tells_now (disk.view disk.now) source sink s
     → ServesNode source sink disk s
 serves_opened disk b n source sink s tells_now so on sound still opens opening f = record {
   outcome = f.outcome;
@@ -136,7 +137,8 @@ serves_opened disk b n source sink s tells_now so on sound still opens opening f
   replied = f.replied;
   session = λ t.
       held disk f.outcome sink.before f.replied f.lines f.next (disk.view n.disk) n.memory n.rows (opens t) source.told source.left f.new
-      (outlasts disk.tells disk.view disk.before disk.now n f.lines f.next (on t) (sound t) (opens t) (opening t) f.trail)
+      (outlasts disk.tells disk.view disk.before disk.now n sink.before f.lines f.next f.outcome f.replied (on t) (sound t) (opens t) (opening t) f.trail)
+      (replied_from disk.tells disk.view disk.before disk.now n sink.before f.lines f.next f.outcome f.replied (on t) (sound t) (opens t) f.trail)
       (subst (λ (x : Option NodeState). IsSessionOf f.lines f.next f.outcome source.told source.left x f.new sink.before f.replied)
       (opened_told (disk.view disk.before).seen b (disk.view n.disk) n.memory n.rows (so t) (sound t).seen_now (opens t)) f.session) f.kept
       (f.stands (still t));

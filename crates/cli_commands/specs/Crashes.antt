@@ -11,6 +11,7 @@ use Rattle.disk_node.specs.Acted.{IsActed}
 use Rattle.disk_node.specs.Opening.{StandsAsBefore}
 use Rattle.journal_session.specs.Session.{AreAnswered, Asks}
 use Rattle.journal_session.specs.Asking.{IsTrail}
+use Rattle.journal_session.specs.declared.served.Served.{Served}
 
 -- the files stand for the state, stopped after some of the effects of the next of these lines,
 -- where there is one
@@ -49,9 +50,10 @@ pub record OutlastsCrashes {D : Type 0} (view : D → View) (old now : D) (s : N
   pub moments : LeavesOnly (view old) (view now) (λ c. StandsAsBefore (view old) c ⊎ StandsInside s (with_next lines next) 0 c)
   pub reached : (count : ℕ) → count ≤ length lines → IsReached view old now s lines next count
 
--- all that was asked of the node was these lines, and this one after them, and the disk is now the
--- node's
-pub record WasAsked {D : Type 0} (tells : D → Type 0) (view : D → View) (node : NodeParts D) (now : D) (lines : List (List ℕ)) (next : Option (List ℕ)) : Type 0 where
+-- all that was asked of the node was these lines, and this one after them, what was written is its
+-- replies, and the disk is now the node's
+pub record WasAsked {D : Type 0} (tells : D → Type 0) (view : D → View) (node : NodeParts D) (now : D) (before : Option (List ℕ)) (lines : List (List ℕ)) (next : Option (List ℕ))
+    (outcome : Served) (replied : Option (List ℕ)) : Type 0 where
   pub last : NodeParts D
-  pub trail : IsTrail (IsActed tells view) lines next node last
+  pub trail : IsTrail (IsActed tells view) lines next outcome node last before replied
   pub disk : last.disk ≡ now

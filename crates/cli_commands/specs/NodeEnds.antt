@@ -28,8 +28,8 @@ pub record IsKept (disk_now : View) (s : NodeState) : Type 0 where
   pub lasting : s.up ≡ true → AllLeave disk_now (λ c. StandsAs c s)
 
 -- A session at a node of this state, where it told one, and what is left of it in the files.
--- `Trail` holds of the lines that were asked.
-pub record ServesFrom (Trail : List (List ℕ) → Option (List ℕ) → Type 0) (old : Option NodeState) (tells_now : Type 0) (disk_now : View)
+-- `Trail` holds of the lines that were asked, of how that ended, and of how the sink stood then.
+pub record ServesFrom (Trail : List (List ℕ) → Option (List ℕ) → Served → Option (List ℕ) → Type 0) (old : Option NodeState) (tells_now : Type 0) (disk_now : View)
     (source : SourceUse) (sink : SinkUse) (s : Status) : Type 0 where
   pub outcome : Served
   pub status_is : s ≡ status_at outcome
@@ -37,7 +37,7 @@ pub record ServesFrom (Trail : List (List ℕ) → Option (List ℕ) → Type 0)
   pub new : Option NodeState
   pub lines : List (List ℕ)
   pub next : Option (List ℕ)
-  pub trail : Trail lines next
+  pub trail : Trail lines next outcome replied
   pub session : IsSessionOf lines next outcome source.told source.left old new sink.before replied
   pub kept : (t : NodeState) → new ≡ Some t → IsKept disk_now t
   pub stands : tells_now → (t : NodeState) × IsKept disk_now t

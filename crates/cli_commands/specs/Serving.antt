@@ -1,14 +1,15 @@
 -- How the serving of a node ends, what it writes, and what it leaves in the node's files.
-use Rattle.std.specs.Prelude.{ℕ, ◌≡◌, ◌≢◌, Bool, true, false, List, [], Option, Some, None}
+use Rattle.std.specs.Prelude.{ℕ, ◌≡◌, ◌≢◌, ◌⊎◌, Bool, true, false, List, [], ◌∷◌, ◌++◌, take, Option, Some, None}
 use Rattle.base_disk.specs.View.{AllLeave, LeavesOnly}
 use Rattle.journal_core.specs.declared.node_state.NodeState.{NodeState}
 use Rattle.journal_core.specs.Segments.{AreSound}
-use Rattle.journal_core.specs.Step.{restarted}
+use Rattle.journal_core.specs.Step.{node_step, restarted}
+use Rattle.journal_text.specs.Texts.{reply_text}
 use Rattle.disk_segment.specs.RowsTell.{AreStarts}
 use Rattle.disk_files.specs.Durable.{StandsAs, AreFilled}
 use Rattle.disk_node.specs.Opening.{IsRefusedFile, IsCauseOf, Keeps, StandsAsBefore}
 use Rattle.journal_session.specs.Lines.{longest_line, longest_input}
-use Rattle.journal_session.specs.Session.{IsSession}
+use Rattle.journal_session.specs.Session.{AreAnswered, Asks, AreWritten, IsSession}
 use Rattle.journal_session.specs.declared.served.Served.{Served}
 use Rattle.journal_session.specs.declared.served.Served.TheVariants as served
 use Rattle.cli_commands.specs.declared.status.Status.{Status}
@@ -66,9 +67,25 @@ pub record IsNodeSession {D : Type 0} (disk : DiskUse D) (outcome : Served) (tol
   pub lasting : outcome ≢ served.DiskFault → outcome ≢ served.OutOfMemory → AllLeave (disk.view disk.now) (λ c. StandsAs c new)
   pub crashes : OutlastsCrashes disk.view disk.before disk.now (restarted state) lines next
 
--- the files stood for the state of a node, which they fix, and stand for one; a crash in the middle
--- left no fewer of some lines than were answered by then
-pub record HoldsNode {D : Type 0} (disk : DiskUse D) : Type 0 where
+-- nothing, or some of the front of a node's reply to this line, where there is one
+abbrev pub IsPartBehind : NodeState → Option (List ℕ) → List ℕ → Type 0
+IsPartBehind s None part = part ≡ []
+IsPartBehind s (Some line) part = (part ≡ []) ⊎ Asks line (λ r. (n : ℕ) × (part ≡ take n (reply_text (node_step s r).reply ++ 10 ∷ [])))
+
+-- What a node of this state wrote: its replies to these lines in order, a line each, and, where a
+-- write failed, a part of the one to the next line.
+pub record AreReplied (s : NodeState) (lines : List (List ℕ)) (next : Option (List ℕ)) (outcome : Served) (before now : Option (List ℕ)) : Type 0 where
+  pub text : List ℕ
+  pub state : NodeState
+  pub answered : AreAnswered s lines text state
+  pub part : List ℕ
+  pub behind : IsPartBehind state next part
+  pub written : AreWritten outcome before now text part
+
+-- the files stood for the state of a node, which they fix, and stand for one; what was written is
+-- its replies to some lines, and a crash in the middle left no fewer of them than were answered by
+-- then
+pub record HoldsNode {D : Type 0} (disk : DiskUse D) (outcome : Served) (before now : Option (List ℕ)) : Type 0 where
   pub state : NodeState
   pub stood : StandsAs (disk.view disk.before).seen state
   pub sound : AreSound state.segments
@@ -78,12 +95,14 @@ pub record HoldsNode {D : Type 0} (disk : DiskUse D) : Type 0 where
   pub stands : StandsAs (disk.view disk.now).seen new
   pub lines : List (List ℕ)
   pub next : Option (List ℕ)
+  pub replied : AreReplied (restarted state) lines next outcome before now
   pub crashes : OutlastsCrashes disk.view disk.before disk.now (restarted state) lines next
 
--- a session at a node, or, where the source doesn't tell its bytes, what its files alone hold
+-- a session at a node, or, where the source doesn't tell its bytes, what its files hold and what
+-- was written
 abbrev pub IsNodeSessionOf : {D : Type 0} → DiskUse D → Served → Option (List ℕ) → Option (List ℕ) → Option (List ℕ) → Option (List ℕ) → Type 0
 IsNodeSessionOf disk outcome (Some told) left before now = IsNodeSession disk outcome told left before now
-IsNodeSessionOf disk outcome None left before now = HoldsNode disk
+IsNodeSessionOf disk outcome None left before now = HoldsNode disk outcome before now
 
 -- A node was served: how that ended, which is the status; the replies, with which the sink stood
 -- there; and the line after them.

@@ -46,7 +46,7 @@ fn serve_opened<S: Source, K: Sink, D: Disk>(
     source: &mut S,
     sink: &mut K,
 ) -> Exit<D>
-    ensures session { ServesFrom (WasAsked D.tells D.view node result.disk) (told_state (D.is_told node.disk) (D.view node.disk).seen node.memory node.rows) (D.tells result.disk) (D.view result.disk)
+    ensures session { ServesFrom (WasAsked D.tells D.view node result.disk (K.taken sink.old)) (told_state (D.is_told node.disk) (D.view node.disk).seen node.memory node.rows) (D.tells result.disk) (D.view result.disk)
         (read_from S.left S.faults source.old source.new) (written_to K.taken K.faults K.kept_back sink.old sink.new) result.status }
     ensures tells { D.tells node.disk ↔ D.tells result.disk }
     ensures cause { IsCauseOf (D.faults node.disk) (D.faults result.disk) (D.steady node.disk) (D.steady result.disk) (is_disk_fault result.status) }

@@ -59,7 +59,7 @@ fn answer_request<N: SessionNode>(
     out: &mut Vec<u8>,
 ) -> Answered
     ensures answer { (line : List ℕ) → reading_of line ≡ ReadRequest.Read request.now → IsAnsweredOf result line (N.state node.old) (N.state node.new) out.new.items }
-    ensures asked { (line : List ℕ) → reading_of line ≡ ReadRequest.Read request.now → IsAskedFor N.asked result line node.old node.new }
+    ensures asked { (line : List ℕ) → reading_of line ≡ ReadRequest.Read request.now → IsAskedFor N.asked result line out.new.items node.old node.new }
     ensures told { is_some (N.state node.new) ≡ is_some (N.state node.old) }
     ensures later { N.faults node.old ≤ N.faults node.new }
     ensures fault { result ≡ Answered.DiskFault → Rose (N.faults node.old) (N.faults node.new) }
@@ -80,7 +80,7 @@ pub(crate) fn answer_line<N: SessionNode>(
     out: &mut Vec<u8>,
 ) -> Answered
     ensures answer { IsAnsweredOf result line.now (N.state node.old) (N.state node.new) out.new.items }
-    ensures asked { IsAskedFor N.asked result line.now node.old node.new }
+    ensures asked { IsAskedFor N.asked result line.now out.new.items node.old node.new }
     ensures told { is_some (N.state node.new) ≡ is_some (N.state node.old) }
     ensures later { N.faults node.old ≤ N.faults node.new }
     ensures fault { result ≡ Answered.DiskFault → Rose (N.faults node.old) (N.faults node.new) }

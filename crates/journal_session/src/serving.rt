@@ -28,7 +28,7 @@ fn serve_line<N: SessionNode, K: Sink>(
     reply: &mut Vec<u8>,
 ) -> Option<Served>
     ensures served { IsServedOf result number line.now (N.state node.old) (N.state node.new) (K.taken sink.old) (K.taken sink.new) }
-    ensures asked { IsAskedBy N.asked result line.now node.old node.new }
+    ensures asked { IsAskedBy N.asked result line.now reply.new.items node.old node.new (K.taken sink.old) (K.taken sink.new) }
     ensures told { is_some (N.state node.new) ≡ is_some (N.state node.old) }
     ensures write_fault { result ≡ Some Served.WriteFault → Rose (K.faults sink.old) (K.faults sink.new) }
     ensures no_write_fault { result ≢ Some Served.WriteFault → K.faults sink.new ≡ K.faults sink.old }
@@ -60,14 +60,14 @@ fn serve_line<N: SessionNode, K: Sink>(
 /// node answered that its disk failed. `OutOfMemory`: there was no memory, here or at the node. The
 /// lines before were answered. A node that tells its state tells it after the session, and one that
 /// doesn't tell it doesn't begin to. What is known of each answer is known of the lines in their
-/// order.
+/// order, and what was written is the replies that the node gave to them, whatever is told.
 pub fn serve<N: SessionNode, S: Source, K: Sink>(
     alloc: Global,
     node: &mut N,
     source: &mut S,
     sink: &mut K,
 ) -> Served
-    ensures session { (lines : List (List ℕ)) × (next : Option (List ℕ)) × IsTrail N.asked lines next node.old node.new
+    ensures session { (lines : List (List ℕ)) × (next : Option (List ℕ)) × IsTrail N.asked lines next result node.old node.new (K.taken sink.old) (K.taken sink.new)
         × IsSessionOf lines next result (S.left source.old) (S.left source.new) (N.state node.old) (N.state node.new) (K.taken sink.old) (K.taken sink.new) }
     ensures told { is_some (N.state node.new) ≡ is_some (N.state node.old) }
     ensures read_fault { result ≡ Served.ReadFault → Rose (S.faults source.old) (S.faults source.new) }

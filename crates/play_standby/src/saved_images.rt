@@ -1,5 +1,5 @@
 //! The images that a name node of a script saves.
-ghost use Rattle.std.specs.Prelude.{◌≡◌, [], OnOk, IfOk};
+ghost use Rattle.std.specs.Prelude.{◌≡◌, ◌⊎◌, [], OnOk, IfOk, MatchResult};
 ghost use Rattle.play_names.specs.Holding.{reload_image, min_to_keep};
 ghost use Rattle.play_names.specs.ImageDisks.{HoldsOn};
 ghost use Rattle.play_standby.specs.Standbys.{held};
@@ -64,10 +64,11 @@ impl SavedImages {
         disk
     }
 
-    /// Saves an image at the standby's position, and keeps the two newest alone. After an `Err`
-    /// none is kept.
+    /// Saves an image at the standby's position, and keeps the two newest alone. At an `Err` memory
+    /// was wanting, and all images are kept as before, or none is.
     pub fn save(&mut self, alloc: Global, standby: &Standby) -> Result<(), OutOfMemory>
-        ensures { OnOk result (self.new ≡ one_saved self.old standby.now) }
+        ensures { MatchResult result (λ _. self.new ≡ one_saved self.old standby.now)
+            (λ _. (self.new ≡ self.old) ⊎ (self.new ≡ [])) }
     {
         self.saves.push(Snapshot::of(standby))?;
         match checkpoint(alloc, standby, &mut self.disk) {

@@ -1,20 +1,19 @@
 -- What is due of a script whose nodes are mirrored.
-use Rattle.std.proofs.Common.{◌≡◌, ℕ, List, [], ◌∷◌, Option, true, map, refl, sym, ap, ◌∙◌, subst}
-use Rattle.std.proofs.lemmas.List.Elements.{All-nil, All-cons}
-use Rattle.base_disk.specs.Files.{Files}
-use Rattle.journal_core.specs.Segments.{AreWithin}
+use Rattle.std.proofs.Common.{◌≡◌, ℕ, ◌+◌, ◌≤◌, List, [], ◌∷◌, length, Option, Some, true, map, refl, sym, ap, ◌∙◌, subst, arith}
+use Rattle.std.specs.Prelude.{slice_get, option_map}
+use Rattle.std.specs.List.{All, Contains}
+use Rattle.std.proofs.lemmas.Bool.{and_parts}
+use Rattle.std.proofs.lemmas.Option.{slice_get-map, slice_get_read}
+use Rattle.std.proofs.lemmas.List.Elements.{All-weaker, All-contains, All-from_recursion, All-contains_itself}
+use Rattle.journal_core.specs.Segments.{any_body, has_edit, IsWithin, AreSound}
 use Rattle.journal_core.specs.declared.node_state.NodeState.{NodeState}
 use Rattle.journal_core.specs.declared.segment.Segment.{Segment}
-use Rattle.disk_segment.specs.RowsTell.{AreStarts}
-use Rattle.disk_segment.specs.declared.segment_row.SegmentRow.{SegmentRow}
-use Rattle.disk_node.specs.FileState.{state_of, segments_at}
-use Rattle.disk_node.specs.Node.{AreSoundFrom, told_state}
 use Rattle.journal_core.specs.declared.segment_line.SegmentLine.{SegmentLine}
 use Rattle.journal_mirror.specs.declared.synced.Missing.{Missing}
 use Rattle.journal_mirror.specs.declared.told.NodeTold.{NodeTold}
 use Rattle.journal_mirror.specs.Logs.{MirroredBy}
 use Rattle.journal_mirror.specs.Mirrors.{lines_of}
-use Rattle.journal_mirror.specs.States.{is_final_with_edit, told_at, mirror_of, IsNumbered, AreNumbered, IsTold}
+use Rattle.journal_mirror.specs.States.{is_final_with_edit, told_at, mirror_of, IsNumbered, IsTold}
 use Rattle.journal_mirror.proofs.HoldLaws.{ComesOf, mirror_comes}
 use Rattle.journal_mirror.proofs.SteadyLaws.{told_map}
 use Rattle.mesh.specs.declared.whole.Mesh.{Mesh}
@@ -32,18 +31,41 @@ use Rattle.qj_cli.specs.Sound.{ComeOf}
 use Rattle.qj_cli.specs.Plays.{GivesScript}
 use Rattle.qj_cli.specs.Mirrors.{text_of_mesh, GivesMirrored}
 
--- sound segments that begin at 1 at least have txids from 1 to 2 ^ 62
-pub numbered_of : (gs : List Segment) → AreWithin gs → AreStarts gs → AreNumbered gs
-numbered_of [] w s = All-nil (λ (g : Segment). is_final_with_edit g ≡ true → IsNumbered g)
-numbered_of (g ∷ gs) w s = All-cons (λ (x : Segment). is_final_with_edit x ≡ true → IsNumbered x) g gs (λ final. (s.0.0, w.0)) (numbered_of gs w.1 s.1)
-
--- a node over a disk in memory tells its state, whose final segments have such txids
-pub node_told : (files : Files) (m : NodeState) (rows : List SegmentRow) → (m.up ≡ true → AreSoundFrom (state_of files m rows)) → IsTold (told_state true files m rows)
-unfolding state_of
-node_told files m rows h = λ up. let s : AreSoundFrom (state_of files m rows) = h up in numbered_of (segments_at files rows) s.0.within s.1
-
 pub agreed : (script : ScriptView) (m : Mesh) (ends : List End) → ComeOf script m ends → Agrees m
 agreed script m ends leaves = subst (λ (x : Mesh). Agrees x) (sym leaves.mesh) leaves.sound.lists.agrees
+
+-- ## What the states at the end of histories tell
+first_body : (bodies : List (List ℕ)) → any_body bodies ≡ true → (body : List ℕ) × (slice_get bodies 0 ≡ Some body)
+first_body [] e = absurd (cc e)
+first_body (body ∷ bodies) e = (body, refl)
+
+module _ (finals : FinalsAreOnLine) (m : Mesh) (agrees : Agrees m) where
+  -- a final segment with an edit begins at 1 at least: that edit is the line's
+  final_start : (i : ℕ) (s : NodeState) (g : Segment) → slice_get (states_after m.histories) i ≡ Some (Some s) → Contains s.segments g → is_final_with_edit g ≡ true → 1 ≤ g.start
+  final_start i s g at there final =
+      let parts = and_parts g.is_final (has_edit g) final in
+      let first = first_body g.bodies parts.1 in
+      let line : OnLine m (epoch_order m) (g.start + 0) first.0 = finals m i (g.start + 0) s g first.0 agrees at there parts.0 (0, refl, first.1) in
+      let from : 1 ≤ g.start + 0 = line.from_one in omega (arith, from)
+
+  node_told : (i : ℕ) (s : NodeState) → slice_get (states_after m.histories) i ≡ Some (Some s) → AreSound s.segments → IsTold (Some s)
+  node_told i s at sound = λ up.
+      All-weaker (Contains s.segments) (λ (g : Segment). is_final_with_edit g ≡ true → IsNumbered g)
+      (λ g there final. (final_start i s g at there final, All-contains IsWithin s.segments g (All-from_recursion IsWithin s.segments sound.within) there))
+      s.segments (All-contains_itself s.segments)
+
+  -- so do nodes that hold these states
+  pub nodes_told : (states : List NodeState) → map (λ (s : NodeState). Some s) states ≡ states_after m.histories → All (λ (s : NodeState). AreSound s.segments) states
+      → All (λ (s : NodeState). IsTold (Some s)) states
+  nodes_told states same sound =
+      All-weaker (Contains states) (λ (s : NodeState). IsTold (Some s))
+      (λ s there.
+      let held : slice_get states there.0 ≡ Some s = slice_get_read states (length states) there.0 s refl there.1 (sym there.2) in
+      let at : slice_get (states_after m.histories) there.0 ≡ Some (Some s) =
+      ap (λ (ss : List (Option NodeState)). slice_get ss there.0) (sym same) ∙ slice_get-map (λ (x : NodeState). Some x) states there.0
+      ∙ ap (option_map (λ (x : NodeState). Some x)) held in
+      node_told there.0 s at (All-contains (λ (x : NodeState). AreSound x.segments) states s sound there))
+      states (All-contains_itself states)
 
 -- ## The text of nodes that a play left
 pub text_of : {N : Type 0} (state : N → Option NodeState) (nodes : List N) (m : Mesh) (heard : List NodeTold) (lines : List SegmentLine) (held : List Segment) (missing : List Missing)

@@ -16,7 +16,7 @@ use cli_commands::{CommandFault, Status, write_due};
 use journal_core::OutOfMemory;
 use ns_tree::{LastSpace, RowList};
 use play_boot::{Booted, boot_nodes};
-use play_laws::{end_reads_are_on_line, images_are_left, line_replays};
+use play_laws::{end_reads_are_on_line, finals_are_on_line, images_are_left, line_replays};
 use play_model::{one_script_has_one_play, scripts_are_playable};
 use play_report::{LONGEST_REPORT, Report, print_booted, print_booted_behind, print_unreachable};
 use play_script::{Script, others_have_names, raw_line};
@@ -54,7 +54,8 @@ fn read_names<S: Source>(alloc: Global, source: &mut S) -> Result<Script, Comman
     }
 }
 
-/// The images of the first declared actor, or an empty disk where there is none.
+/// The images of the first declared actor, or an empty disk where there is none. The images of the
+/// others are never given back.
 fn first_images(alloc: Global, images: Vec<MemDisk>) -> MemDisk
     ensures { IsFirstDisk images.items result }
 {
@@ -62,11 +63,13 @@ fn first_images(alloc: Global, images: Vec<MemDisk>) -> MemDisk
     if images.is_empty() {
         return MemDisk::new(alloc);
     }
-    images.swap_remove(0)
+    let first = images.swap_remove(0);
+    mem::forget(images);
+    first
 }
 
 /// Plays a script with names, and boots a fresh standby over its nodes, from the images of its
-/// first actor.
+/// first actor. The lists that the play left are never given back.
 fn boot_played(alloc: Global, script: &Script) -> Result<Booted, OutOfMemory>
     requires script { IsScript script.now }
     requires named { script.now.named ≡ true }
@@ -76,15 +79,19 @@ fn boot_played(alloc: Global, script: &Script) -> Result<Booted, OutOfMemory>
     scripts_are_playable();
     one_script_has_one_play();
     images_are_left();
+    finals_are_on_line();
     end_reads_are_on_line();
     line_replays();
     let left = play_leaving(alloc, script)?;
     know_segments(&left.played.nodes);
     let from = first_images(alloc, left.images);
-    Ok(boot_nodes(alloc, from, left.played.nodes))
+    let booted = boot_nodes(alloc, from, left.played.nodes);
+    mem::forget(left.played.mesh);
+    mem::forget(left.played.ends);
+    Ok(booted)
 }
 
-/// The text of a standby that began, with its rows.
+/// The text of a standby that began, with its rows, which are never given back.
 fn text_of_standby(
     alloc: Global,
     standby: Standby,
@@ -101,7 +108,9 @@ fn text_of_standby(
         position,
         rows: RowList::of(rows),
     };
-    match print_booted(alloc, image, &last) {
+    let printed = print_booted(alloc, image, &last);
+    mem::forget(last);
+    match printed {
         Ok(Report::Text(text)) => Ok(text),
         Ok(Report::TooLong) => Err(CommandFault::Limit(LONGEST_REPORT as u64)),
         Err(_) => Err(CommandFault::OutOfMemory),
@@ -158,13 +167,15 @@ fn text_of_booted(alloc: Global, booted: Booted) -> Result<Vec<u8>, CommandFault
 }
 
 /// Reads the source, plays its script in order, and tells what a fresh standby comes to over its
-/// nodes.
+/// nodes. The script is never given back: the process ends once the text is written.
 fn due_of_boot<S: Source>(alloc: Global, source: &mut S) -> Result<Vec<u8>, CommandFault>
     ensures text { IfOk result (λ text. GivesBooted (read_from S.left S.faults source.old source.new) Status.Ok text.items) }
     ensures fault { IfErr result (IsBootFault (read_from S.left S.faults source.old source.new)) }
 {
     let script = read_names(alloc, source)?;
-    match boot_played(alloc, &script) {
+    let booted = boot_played(alloc, &script);
+    mem::forget(script);
+    match booted {
         Ok(booted) => text_of_booted(alloc, booted),
         Err(_) => Err(CommandFault::OutOfMemory),
     }

@@ -1,7 +1,8 @@
-//! Scripts played over fresh nodes on disks in memory, in order or by threads.
-ghost use Rattle.std.specs.Prelude.{◌≡◌, true, IfOk, map};
+//! Scripts played over fresh nodes, on disks in memory or without files, in order or by threads.
+ghost use Rattle.std.specs.Prelude.{◌≡◌, true, IfOk, Some, length, map};
 ghost use Rattle.std.specs.List.{All};
 ghost use Rattle.base_disk.specs.MemDisk.{disk_view, CannotFail};
+ghost use Rattle.journal_core.specs.Step.{fresh_state};
 ghost use Rattle.disk_node.specs.Node.{told_state};
 ghost use Rattle.play_script.specs.Grammar.{IsScript};
 ghost use Rattle.play_model.specs.Lines.{lines_of};
@@ -10,7 +11,8 @@ ghost use Rattle.qj_cli.specs.Sound.{AreSound, ComeOf};
 
 use base_disk::MemDisk;
 use disk_node::{JournalNode, fresh_nodes};
-use journal_core::OutOfMemory;
+use journal_core::{CutNode, OutOfMemory};
+use journal_step::PlainNode;
 use mesh::epoch_order_is_a_run;
 use ns_tree::LastSpace;
 use play_actor::ScriptActor;
@@ -22,7 +24,7 @@ use play_laws::{
 use play_model::{
     Played, a_mesh_that_agrees_is_safe, a_play_agrees, a_play_follows, scripts_are_playable,
 };
-use play_order::{PlayedOn, play_on};
+use play_order::{PlayedOn, plain_nodes, play_on};
 use play_script::{Script, ScriptLine};
 use play_threads::{Actors, act_alone, run_on};
 use run_safety::laws::every_run_keeps_its_parts;
@@ -45,16 +47,20 @@ impl Actors for ScriptActors {
     }
 }
 
-/// A script played, all lines in order; and the images of its actors.
-pub fn play_leaving(
+/// A script played over these nodes, all lines in order; and the images of its actors.
+fn play_over<N: CutNode + Drop>(
     alloc: Global,
+    nodes: Vec<N>,
     script: &Script,
-) -> Result<PlayedOn<JournalNode<MemDisk>>, OutOfMemory>
-    requires { IsScript script.now }
+) -> Result<PlayedOn<N>, OutOfMemory>
+    requires script { IsScript script.now }
+    requires count { length nodes.items ≡ script.now.nodes }
+    requires fresh { All (λ n. N.state n ≡ Some fresh_state) nodes.items }
+    requires steady { All (λ n. N.steady n) nodes.items }
     ensures comes { IfOk result (λ left. ComeOf script.now left.played.mesh left.played.ends) }
-    ensures states { IfOk result (λ left. map (λ n. told_state true (disk_view n.disk).seen n.memory n.rows) left.played.nodes.items ≡ states_after left.played.mesh.histories) }
+    ensures states { IfOk result (λ left. map (λ n. N.state n) left.played.nodes.items ≡ states_after left.played.mesh.histories) }
     ensures images { IfOk result (λ left. LeavesImages script.now.named script.now.nodes (lines_of script.now) left.played.mesh left.played.ends left.images.items) }
-    ensures steady { IfOk result (λ left. All (λ n. CannotFail n.disk) left.played.nodes.items) }
+    ensures steady { IfOk result (λ left. All (λ n. N.steady n) left.played.nodes.items) }
 {
     scripts_are_playable();
     a_play_agrees();
@@ -66,12 +72,23 @@ pub fn play_leaving(
     edits_have_one_result();
     results_tell_acknowledged();
     names_are_kept();
-    let nodes = fresh_nodes(alloc, script.nodes())?;
-    let left = play_on::<ScriptActor, _>(alloc, nodes, script)?;
+    let left = play_on::<ScriptActor, N>(alloc, nodes, script)?;
     Ok(left)
 }
 
-/// A script played, all lines in order.
+/// A script played over nodes without files, all lines in order; and the images of its actors.
+pub fn play_leaving(alloc: Global, script: &Script) -> Result<PlayedOn<PlainNode>, OutOfMemory>
+    requires { IsScript script.now }
+    ensures comes { IfOk result (λ left. ComeOf script.now left.played.mesh left.played.ends) }
+    ensures states { IfOk result (λ left. map (λ n. Some n) left.played.nodes.items ≡ states_after left.played.mesh.histories) }
+    ensures images { IfOk result (λ left. LeavesImages script.now.named script.now.nodes (lines_of script.now) left.played.mesh left.played.ends left.images.items) }
+{
+    let nodes = plain_nodes(alloc, script.nodes())?;
+    let left = play_over(alloc, nodes, script)?;
+    Ok(left)
+}
+
+/// A script played over nodes on disks in memory, all lines in order.
 pub fn play_soundly(
     alloc: Global,
     script: &Script,
@@ -81,7 +98,8 @@ pub fn play_soundly(
     ensures states { IfOk result (λ played. map (λ n. told_state true (disk_view n.disk).seen n.memory n.rows) played.nodes.items ≡ states_after played.mesh.histories) }
     ensures steady { IfOk result (λ played. All (λ n. CannotFail n.disk) played.nodes.items) }
 {
-    let left = play_leaving(alloc, script)?;
+    let nodes = fresh_nodes(alloc, script.nodes())?;
+    let left = play_over(alloc, nodes, script)?;
     Ok(left.played)
 }
 

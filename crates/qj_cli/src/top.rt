@@ -126,13 +126,13 @@ pub fn qjm_alone<S: Source, K: Sink, D: Disk>(
 /// - `run` does the same by a thread for each actor and one for the operator, each with its own
 ///   lines in order; how their calls fall among one another is the schedule's. `pass` is called
 ///   before each call. The call may wait.
-/// - `mirror` plays the script as `play` does, makes one pass of a fresh mirror over its nodes, and
-///   writes for each node how many final segments it told or why it told none, the segments that
-///   are held, and how many edits they have. The disk isn't called.
-/// - `boot` plays a script with names as `play` does, boots a fresh standby over its nodes from the
-///   images of its first declared actor, and writes the image's txid, the standby's position and
-///   its rows; or why it doesn't get there: the log begins later, or too few nodes answer. The disk
-///   isn't called.
+/// - `mirror` plays the script in order, over nodes without files, makes one pass of a fresh mirror
+///   over them, and writes for each node how many final segments it told or why it told none, the
+///   segments that are held, and how many edits they have. The disk isn't called.
+/// - `boot` plays a script with names in order, over nodes without files, boots a fresh standby over
+///   them from the images of its first declared actor, and writes the image's txid, the standby's
+///   position and its rows; or why it doesn't get there: the log begins later, or too few nodes
+///   answer. The disk isn't called.
 /// - `oev list NAME`, `oev stats NAME` and `oev json NAME` read the disk's file of that name, a
 ///   segment's, and write a line for each of its edits, how many there are of each kind, or all as
 ///   an array of JSON. The source isn't read, and the disk isn't changed.

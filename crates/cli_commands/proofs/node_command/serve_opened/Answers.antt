@@ -20,11 +20,12 @@ returns-clause-session g c =
     let sink = written_to g.K.Sink.taken g.K.Sink.faults g.K.Sink.kept_back c.args.sink.now c.end_session-status.new.sink in
     let kept : g.D.DiskModel.tells disk → IsKept v (state_of v.seen m rows) = λ t. kept_state v m rows (c.into_disk.ensures.stands t) (c.into_disk.ensures.lasting t) in
     subst
-    (λ d. ServesFrom (WasAsked g.D.DiskModel.tells g.D.DiskModel.view c.args.node d) old (g.D.DiskModel.tells d) (g.D.DiskModel.view d) source sink c.end_session-status.result)
+    (λ d. ServesFrom (WasAsked g.D.DiskModel.tells g.D.DiskModel.view c.args.node d (g.K.Sink.taken c.args.sink.now))
+    old (g.D.DiskModel.tells d) (g.D.DiskModel.view d) source sink c.end_session-status.result)
     (sym c.into_disk.ensures.disk)
     (session_told c.serve-served.result c.end_session-status.result (g.K.Sink.taken c.serve-served.new.sink) (g.K.Sink.faults c.serve-served.new.sink)
     (g.K.Sink.kept_back c.serve-served.new.sink) sink c.end_session-status.ensures
-    asked.0 asked.1 (WasAsked g.D.DiskModel.tells g.D.DiskModel.view c.args.node disk) source old (told_state (g.D.DiskModel.is_told disk) v.seen m rows)
+    asked.0 asked.1 (WasAsked g.D.DiskModel.tells g.D.DiskModel.view c.args.node disk (g.K.Sink.taken c.args.sink.now)) source old (told_state (g.D.DiskModel.is_told disk) v.seen m rows)
     (g.D.DiskModel.tells disk) v
     (record { last = c.serve-served.new.node; trail = asked.2; disk = refl }) asked.3 c.serve-served.ensures.read_fault
     c.serve-served.ensures.no_read_fault c.serve-served.ensures.write_fault c.serve-served.ensures.no_write_fault c.serve-served.ensures.handed

@@ -2,9 +2,10 @@ use Rattle.std.proofs.Common.{ℕ, ◌∷◌, ◌++◌, [], List, Option, None, 
 use Rattle.journal_session.specs.Session.{IsSessionOf}
 use Rattle.journal_session.specs.Asking.{IsTrail}
 use Rattle.journal_session.specs.declared.served.Served.{Served}
+use Rattle.journal_session.specs.declared.served.Served.TheVariants as served
 use Rattle.journal_session.proofs.SessionLaws.{begun_with, one_more}
 use Rattle.journal_session.proofs.EndLaws.{unbegun, untaken, at_end, last_answered, line_too_long, input_too_long, read_failed, stopped_ended, stopped_last}
-use Rattle.journal_session.proofs.AskLaws.{asked_more, trail_ends, trail_stops}
+use Rattle.journal_session.proofs.AskLaws.{none_asked, asked_more, trail_ends, trail_stops}
 use Rattle.journal_session.proofs.serving.serve.Goals as goal
 use Rattle.journal_session.proofs.serving.serve.Goals.{in-Some-serve_line, in-None}
 
@@ -12,7 +13,7 @@ pub loop-node-init : goal.loop-node-init
 loop-node-init g c = record {
   so_far = (
     [],
-    refl,
+    none_asked g.N.SessionNode.asked c.args.node.now (g.K.Sink.taken c.args.sink.now),
     begun_with (g.S.Source.left c.args.source.now) (g.N.SessionNode.state c.args.node.now) (g.K.Sink.taken c.args.sink.now) c.in-Ok.reader
         c.in-Ok.ensures.held c.in-Ok.ensures.taken,
   );
@@ -30,7 +31,8 @@ pub returns-in_default-clause-session : goal.returns-in_default-clause-session
 returns-in_default-clause-session g c = (
   [],
   None,
-  trail_ends g.N.SessionNode.asked [] c.args.node.now c.args.node.now refl,
+  trail_ends g.N.SessionNode.asked served.OutOfMemory [] c.args.node.now c.args.node.now (g.K.Sink.taken c.args.sink.now) (g.K.Sink.taken c.args.sink.now)
+      (none_asked g.N.SessionNode.asked c.args.node.now (g.K.Sink.taken c.args.sink.now)),
   unbegun (g.S.Source.left c.args.source.now) (g.N.SessionNode.state c.args.node.now) (g.K.Sink.taken c.args.sink.now),
 )
 
@@ -40,7 +42,8 @@ returns-in-Some-clause-session g c =
     let all = trail_stops g.N.SessionNode.asked
     (λ last. IsSessionOf so.0 last c.in-Some.served (g.S.Source.left c.args.source.now) (g.S.Source.left c.next_line.new.source)
     (g.N.SessionNode.state c.args.node.now) (g.N.SessionNode.state c.serve_line.new.node) (g.K.Sink.taken c.args.sink.now) (g.K.Sink.taken c.serve_line.new.sink))
-    so.0 c.next_line.new.self.line c.args.node.now c.loop-node.node c.serve_line.new.node so.1 (rw c.line.ensures.bytes at c.in-Some.ensures.asked)
+    c.in-Some.served so.0 c.next_line.new.self.line c.serve_line.new.reply.items c.args.node.now c.loop-node.node c.serve_line.new.node
+    (g.K.Sink.taken c.args.sink.now) (g.K.Sink.taken c.loop-node.sink) (g.K.Sink.taken c.serve_line.new.sink) so.1 (rw c.line.ensures.bytes at c.in-Some.ensures.asked)
     (λ last this. stopped_ended so.0 last c.in-Some.served (g.S.Source.left c.args.source.now) (g.N.SessionNode.state c.args.node.now) (g.S.Source.left c.loop-node.source)
     (g.S.Source.left c.next_line.new.source) (g.N.SessionNode.state c.loop-node.node) (g.N.SessionNode.state c.serve_line.new.node)
     (g.K.Sink.taken c.args.sink.now) (g.K.Sink.taken c.loop-node.sink) (g.K.Sink.taken c.serve_line.new.sink)
@@ -52,7 +55,8 @@ pub loop-node-preserved : goal.loop-node-preserved
 loop-node-preserved g c = record {
   so_far = (
     c.loop-node.invariant.so_far.0 ++ c.next_line.new.self.line ∷ [],
-    asked_more g.N.SessionNode.asked c.loop-node.invariant.so_far.0 c.next_line.new.self.line c.args.node.now c.loop-node.node c.serve_line.new.node c.loop-node.invariant.so_far.1
+    asked_more g.N.SessionNode.asked c.loop-node.invariant.so_far.0 c.next_line.new.self.line c.serve_line.new.reply.items c.args.node.now c.loop-node.node c.serve_line.new.node
+        (g.K.Sink.taken c.args.sink.now) (g.K.Sink.taken c.loop-node.sink) (g.K.Sink.taken c.serve_line.new.sink) c.loop-node.invariant.so_far.1
         (rw c.line.ensures.bytes at c.in_default-serve_line.ensures.asked),
     one_more c.loop-node.invariant.so_far.0 (g.S.Source.left c.args.source.now) (g.N.SessionNode.state c.args.node.now) (g.S.Source.left c.loop-node.source)
         (g.S.Source.left c.next_line.new.source) (g.N.SessionNode.state c.loop-node.node) (g.N.SessionNode.state c.serve_line.new.node)
@@ -76,10 +80,12 @@ returns-in-Last-clause-session g c =
     let line = c.next_line.new.self.line in
     let S : List (List ℕ) → Option (List ℕ) → Served → Type 0 = λ lines last x. IsSessionOf lines last x (g.S.Source.left c.args.source.now) (g.S.Source.left c.next_line.new.source)
     (g.N.SessionNode.state c.args.node.now) (g.N.SessionNode.state c.serve_line-in-Last.new.node) (g.K.Sink.taken c.args.sink.now) (g.K.Sink.taken c.serve_line-in-Last.new.sink) in
-    let P : Served → Type 0 = λ x. (lines : List (List ℕ)) × (last : Option (List ℕ)) × IsTrail g.N.SessionNode.asked lines last c.args.node.now c.serve_line-in-Last.new.node × S lines last x in
+    let P : Served → Type 0 = λ x. (lines : List (List ℕ)) × (last : Option (List ℕ)) × IsTrail g.N.SessionNode.asked lines last x c.args.node.now c.serve_line-in-Last.new.node
+    (g.K.Sink.taken c.args.sink.now) (g.K.Sink.taken c.serve_line-in-Last.new.sink) × S lines last x in
     elim c.match-serve_line-2.branch [
       | in-Some-serve_line w ↦
-          let all = trail_stops g.N.SessionNode.asked (λ last. S so.0 last w.in-Some-serve_line.served) so.0 line c.args.node.now c.loop-node.node c.serve_line-in-Last.new.node so.1
+          let all = trail_stops g.N.SessionNode.asked (λ last. S so.0 last w.in-Some-serve_line.served) w.in-Some-serve_line.served so.0 line c.serve_line-in-Last.new.reply.items
+          c.args.node.now c.loop-node.node c.serve_line-in-Last.new.node (g.K.Sink.taken c.args.sink.now) (g.K.Sink.taken c.loop-node.sink) (g.K.Sink.taken c.serve_line-in-Last.new.sink) so.1
           (rw c.line-in-Last.ensures.bytes at w.in-Some-serve_line.ensures.asked)
           (λ last this. stopped_last so.0 last w.in-Some-serve_line.served (g.S.Source.left c.args.source.now) (g.N.SessionNode.state c.args.node.now) (g.S.Source.left c.loop-node.source)
           (g.S.Source.left c.next_line.new.source) (g.N.SessionNode.state c.loop-node.node) (g.N.SessionNode.state c.serve_line-in-Last.new.node)
@@ -91,8 +97,9 @@ returns-in-Last-clause-session g c =
       | in-None w ↦ subst P (sym w.result-is) (
         so.0 ++ line ∷ [],
         None,
-        trail_ends g.N.SessionNode.asked (so.0 ++ line ∷ []) c.args.node.now c.serve_line-in-Last.new.node
-            (asked_more g.N.SessionNode.asked so.0 line c.args.node.now c.loop-node.node c.serve_line-in-Last.new.node so.1 (rw c.line-in-Last.ensures.bytes at w.in-None.ensures.asked)),
+        trail_ends g.N.SessionNode.asked served.Done (so.0 ++ line ∷ []) c.args.node.now c.serve_line-in-Last.new.node (g.K.Sink.taken c.args.sink.now) (g.K.Sink.taken c.serve_line-in-Last.new.sink)
+            (asked_more g.N.SessionNode.asked so.0 line c.serve_line-in-Last.new.reply.items c.args.node.now c.loop-node.node c.serve_line-in-Last.new.node
+            (g.K.Sink.taken c.args.sink.now) (g.K.Sink.taken c.loop-node.sink) (g.K.Sink.taken c.serve_line-in-Last.new.sink) so.1 (rw c.line-in-Last.ensures.bytes at w.in-None.ensures.asked)),
         last_answered so.0 (g.S.Source.left c.args.source.now) (g.N.SessionNode.state c.args.node.now) (g.S.Source.left c.loop-node.source)
             (g.S.Source.left c.next_line.new.source) (g.N.SessionNode.state c.loop-node.node) (g.N.SessionNode.state c.serve_line-in-Last.new.node)
             (g.K.Sink.taken c.args.sink.now) (g.K.Sink.taken c.loop-node.sink) (g.K.Sink.taken c.serve_line-in-Last.new.sink)
@@ -107,7 +114,7 @@ returns-in-End-clause-session g c =
     let so = c.loop-node.invariant.so_far in (
       so.0,
       None,
-      trail_ends g.N.SessionNode.asked so.0 c.args.node.now c.loop-node.node so.1,
+      trail_ends g.N.SessionNode.asked served.Done so.0 c.args.node.now c.loop-node.node (g.K.Sink.taken c.args.sink.now) (g.K.Sink.taken c.loop-node.sink) so.1,
       at_end so.0 (g.S.Source.left c.args.source.now) (g.N.SessionNode.state c.args.node.now) (g.S.Source.left c.loop-node.source)
           (g.S.Source.left c.next_line.new.source) (g.N.SessionNode.state c.loop-node.node) (g.K.Sink.taken c.args.sink.now) (g.K.Sink.taken c.loop-node.sink)
           c.loop-node.reader c.next_line.new.self c.loop-node.number c.loop-node.invariant.so_far.2 c.in-End.ensures.next.0 c.in-End.ensures.next.1
@@ -119,7 +126,7 @@ returns-in-LongLine-clause-session g c =
     let so = c.loop-node.invariant.so_far in (
       so.0,
       None,
-      trail_ends g.N.SessionNode.asked so.0 c.args.node.now c.loop-node.node so.1,
+      trail_ends g.N.SessionNode.asked served.LongLine so.0 c.args.node.now c.loop-node.node (g.K.Sink.taken c.args.sink.now) (g.K.Sink.taken c.loop-node.sink) so.1,
       line_too_long so.0 (g.S.Source.left c.args.source.now) (g.N.SessionNode.state c.args.node.now) (g.S.Source.left c.loop-node.source)
           (g.S.Source.left c.next_line.new.source) (g.N.SessionNode.state c.loop-node.node) (g.K.Sink.taken c.args.sink.now) (g.K.Sink.taken c.loop-node.sink)
           c.loop-node.reader c.next_line.new.self c.loop-node.number c.loop-node.invariant.so_far.2 c.in-LongLine.ensures.next.0 c.in-LongLine.ensures.next.1
@@ -131,7 +138,7 @@ returns-in-LongInput-clause-session g c =
     let so = c.loop-node.invariant.so_far in (
       so.0,
       None,
-      trail_ends g.N.SessionNode.asked so.0 c.args.node.now c.loop-node.node so.1,
+      trail_ends g.N.SessionNode.asked served.LongInput so.0 c.args.node.now c.loop-node.node (g.K.Sink.taken c.args.sink.now) (g.K.Sink.taken c.loop-node.sink) so.1,
       input_too_long so.0 (g.S.Source.left c.args.source.now) (g.N.SessionNode.state c.args.node.now) (g.S.Source.left c.loop-node.source)
           (g.S.Source.left c.next_line.new.source) (g.N.SessionNode.state c.loop-node.node) (g.K.Sink.taken c.args.sink.now) (g.K.Sink.taken c.loop-node.sink)
           c.loop-node.reader c.next_line.new.self c.loop-node.number c.loop-node.invariant.so_far.2 c.in-LongInput.ensures.next.0 c.in-LongInput.ensures.next.1,
@@ -142,7 +149,7 @@ returns-in-ReadFault-clause-session g c =
     let so = c.loop-node.invariant.so_far in (
       so.0,
       None,
-      trail_ends g.N.SessionNode.asked so.0 c.args.node.now c.loop-node.node so.1,
+      trail_ends g.N.SessionNode.asked served.ReadFault so.0 c.args.node.now c.loop-node.node (g.K.Sink.taken c.args.sink.now) (g.K.Sink.taken c.loop-node.sink) so.1,
       read_failed so.0 (g.S.Source.left c.args.source.now) (g.N.SessionNode.state c.args.node.now) (g.S.Source.left c.loop-node.source)
           (g.S.Source.left c.next_line.new.source) (g.N.SessionNode.state c.loop-node.node) (g.K.Sink.taken c.args.sink.now) (g.K.Sink.taken c.loop-node.sink)
           c.loop-node.reader c.next_line.new.self c.loop-node.number c.loop-node.invariant.so_far.2 c.in-ReadFault.ensures.next.0 c.in-ReadFault.ensures.next.1
@@ -154,7 +161,7 @@ returns-in-OutOfMemory-clause-session g c =
     let so = c.loop-node.invariant.so_far in (
       so.0,
       None,
-      trail_ends g.N.SessionNode.asked so.0 c.args.node.now c.loop-node.node so.1,
+      trail_ends g.N.SessionNode.asked served.OutOfMemory so.0 c.args.node.now c.loop-node.node (g.K.Sink.taken c.args.sink.now) (g.K.Sink.taken c.loop-node.sink) so.1,
       untaken so.0 (g.S.Source.left c.args.source.now) (g.N.SessionNode.state c.args.node.now) _
           (g.S.Source.left c.next_line.new.source) (g.N.SessionNode.state c.loop-node.node) (g.K.Sink.taken c.args.sink.now) (g.K.Sink.taken c.loop-node.sink)
           c.loop-node.reader.taken c.loop-node.number c.loop-node.invariant.so_far.2 c.loop-node.invariant.within,

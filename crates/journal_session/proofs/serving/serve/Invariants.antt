@@ -1,14 +1,14 @@
 use Rattle.std.proofs.Common.{ℕ, ◌≡◌, ◌≤◌, ◌+◌, ◌-◌, List, is_some}
 use Rattle.journal_session.specs.Lines.{longest_input}
 use Rattle.journal_session.specs.Reader.{to_come}
-use Rattle.journal_session.specs.Asking.{AreAsked}
 use Rattle.journal_session.proofs.SessionLaws.{SoFar}
+use Rattle.journal_session.proofs.AskLaws.{AreAskedSo}
 use Rattle.journal_session.proofs.serving.serve.Given as goal
 
 -- the lines so far were answered, and nothing failed
 abbrev pub invariant-loop-node : goal.invariant-loop-node
 invariant-loop-node g l = record {
-  so_far : (lines : List (List ℕ)) × AreAsked g.N.SessionNode.asked lines l.fn.node l.node
+  so_far : (lines : List (List ℕ)) × AreAskedSo g.N.SessionNode.asked lines l.fn.node l.node (g.K.Sink.taken l.fn.sink) (g.K.Sink.taken l.sink)
       × SoFar lines (g.S.Source.left l.fn.source) (g.N.SessionNode.state l.fn.node) (to_come l.reader (g.S.Source.left l.source))
       (g.N.SessionNode.state l.node)
       (g.K.Sink.taken l.fn.sink) (g.K.Sink.taken l.sink) l.reader.taken l.number;

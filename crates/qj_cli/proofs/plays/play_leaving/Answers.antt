@@ -1,15 +1,14 @@
-use Rattle.qj_cli.proofs.ReportLaws.{comes}
+use Rattle.std.proofs.Common.{◌≡◌, ◌∙◌, Some, refl, sym, ap, subst, length, List}
+use Rattle.std.specs.List.{All}
+use Rattle.journal_core.specs.declared.node_state.NodeState.{NodeState}
+use Rattle.journal_core.specs.Step.{fresh_state}
+use Rattle.std.proofs.lemmas.List.Elements.{All-replicate}
+use Rattle.std.proofs.lemmas.List.{length-replicate}
 use Rattle.qj_cli.proofs.plays.play_leaving.Goals as goal
 
-pub returns-clause-comes : goal.returns-clause-comes
-returns-clause-comes c =
-    comes c.args.script.now c.in_ok-left.left.played.mesh c.in_ok-left.left.played.ends (c.scripts_are_playable.ensures.lines c.args.script.now c.requires) c.in_ok-left.ensures.played
-    c.a_play_agrees.ensures.script c.a_play_follows.ensures.script (record {
-      run = c.epoch_order_is_a_run.ensures;
-      safe = c.a_mesh_that_agrees_is_safe.ensures;
-      named_safe = c.epoch_order_is_safe.ensures;
-      parts = c.every_run_keeps_its_parts.ensures;
-      results = c.edits_have_one_result.ensures;
-      told = c.results_tell_acknowledged.ensures;
-      names = c.names_are_kept.ensures;
-    })
+pub play_over-requires-clause-fresh : goal.play_over-requires-clause-fresh
+play_over-requires-clause-fresh c =
+    subst (λ (ns : List NodeState). All (λ n. Some n ≡ Some fresh_state) ns) (sym c.in_ok-nodes.ensures) (All-replicate (λ n. Some n ≡ Some fresh_state) c.nodes.result fresh_state refl)
+
+pub play_over-requires-clause-count : goal.play_over-requires-clause-count
+play_over-requires-clause-count c = ap length c.in_ok-nodes.ensures ∙ length-replicate c.nodes.result fresh_state ∙ c.nodes.ensures
