@@ -96,7 +96,7 @@ join_pipes() {
     trap 'trap - TERM; kill 0' TERM
     while :; do
       ssh -o ConnectTimeout=5 -o ServerAliveInterval=2 -o ServerAliveCountMax=3 '$(host_in "$4")' \
-        'cd $(path_in "$4")/clients && { old=\$(cat $client.relay)
+        'cd $(path_in "$4")/clients && [ -p $client.requests ] && [ -p $client.replies ] && { old=\$(cat $client.relay)
           grep -q $client.requests /proc/\$old/cmdline && kill -TERM -\$old; echo \$\$ >$client.relay
           exec 3<&0; cat <&3 >$client.requests & there=\$!; exec 3<&-; cat <$client.replies; kill \$there; } 2>/dev/null' \
         <'$3/nodes/$2.requests' >'$3/nodes/$2.replies' &
@@ -117,25 +117,35 @@ start_lead() {
   (cd "$2" && setsid -f "$top/qjm" cluster keep-lead "$nodes" >>"$here/$RUN/lead-$1.log" 2>&1 </dev/null)
 }
 
-# Asks each node's state each second, as one more client. A node that doesn't answer in time is killed: its keeper starts it again.
+# Asks a node's state each second, over descriptors 3 and 4, until it doesn't answer. One that is silent too long is killed.
+ask_node() {
+  call=0
+  while :; do
+    call=$((call + 1))
+    echo "#1 $call state ." >&3 2>/dev/null || break
+    answer=$(timeout "$WATCH_LIMIT" head -n 1 <&4)
+    case $? in
+      0) [ -n "$answer" ] || break ;;
+      *) kill -9 "$(cat node.pid)" 2>/dev/null; break ;;
+    esac
+    echo "$answer" >"$here/$RUN/node$1.state"
+    sleep 1
+  done
+}
+
+# Opens the watch's pipes to the node of the current folder as descriptors 3 and 4. Where the node's keeper ended there are none,
+# and the watch waits for new ones.
+open_watch() {
+  [ -p "$1.requests" ] && command exec 3>"$1.requests" && [ -p "$1.replies" ] && command exec 4<"$1.replies"
+}
+
+# Watches a node, as one more client of it: what hangs is made dead, and its keeper starts it again.
 watch_node() {
   trap '' PIPE
   client=$(($(count_of lead) + 1))
   cd "$2/clients" || exit 1
   while :; do
-    exec 3>"$client.requests" 4<"$client.replies"
-    call=0
-    while :; do
-      call=$((call + 1))
-      echo "#1 $call state ." >&3 2>/dev/null || break
-      answer=$(timeout "$WATCH_LIMIT" head -n 1 <&4)
-      case $? in
-        0) [ -n "$answer" ] || break ;;
-        *) kill -9 "$(cat node.pid)" 2>/dev/null; break ;;
-      esac
-      echo "$answer" >"$here/$RUN/node$1.state"
-      sleep 1
-    done
+    ! open_watch "$client" 2>/dev/null || ask_node "$1"
     exec 3>&- 4<&-
     rm -f "$here/$RUN/node$1.state"
     sleep 1
@@ -188,7 +198,7 @@ cluster_up() {
 # Gives a lead a line, and writes its results: a line that no lead takes marks the end of them.
 tell_lead() {
   folder=$(folder_of lead "$1")
-  [ -n "$folder" ] || { say "no lead $1 in $CONF"; exit 1; }
+  [ -n "$folder" ] || { say "${1:+no lead $1: }the leads of $CONF are $(list_of lead | cut -d ' ' -f 1 | paste -s -d ' ')"; exit 1; }
   [ -z "$(host_in "$folder")" ] || { say "the lead $1 is at $(host_in "$folder"): the command is to be given there"; exit 1; }
   is_running lead "$folder" || { say "the lead $1 doesn't run"; exit 1; }
   before=$(wc -l <"$folder/out")
@@ -328,6 +338,7 @@ cluster() {
     release) check_conf; cluster_release "${1-}" ;;
     down) cluster_down ;;
     keep) keep_node "${1-1}" ;;
+    guard) guard_keeper ;;
     keep-lead) keep_lead "${1-1}" ;;
     watch) echo $$ >"$RUN/watch$1.pid"; watch_node "$1" "$2" ;;
     *) show_help cluster; exit 1 ;;

@@ -5,14 +5,27 @@ readonly DOOR_PAUSE=0.05 LONGEST_PAUSE=10
 
 # Makes a named pipe, where there is none.
 make_pipe() {
-  [ -p "$1" ] || mkfifo -m 600 "$1"
+  [ -p "$1" ] || { rm -f "$1"; mkfifo -m 600 "$1"; }
 }
 
-# The door of client K, while no node runs: whoever opens the client's pipes is let in, and hung up on at once.
+# Takes the clients' pipes of the current folder away: who opens one later finds none, and is silent to its caller at once; who
+# waits at one now is let in, and hung up on. (An opening for both reads and writes waits for nobody.)
+take_pipes() {
+  for pipe in clients/*.requests clients/*.replies; do
+    [ ! -p "$pipe" ] || mv "$pipe" "$pipe.gone"
+  done
+  for pipe in clients/*.gone; do
+    [ ! -p "$pipe" ] || : <>"$pipe"
+    rm -f "$pipe"
+  done
+}
+
+# The door of client K, while no node runs: whoever opens the client's pipes is let in, and hung up on at once. It stands as long
+# as its keeper, and as the pipes do.
 stand_at_door() {
-  while :; do
+  while kill -0 $$ && [ -p "clients/$1.requests" ]; do
     : <"clients/$1.requests"
-    : >"clients/$1.replies"
+    [ ! -p "clients/$1.replies" ] || : >"clients/$1.replies"
     sleep "$DOOR_PAUSE"
   done
 }
@@ -34,20 +47,13 @@ close_doors() {
   doors=''
 }
 
-# Lets each thread of a node that is to stop see that: it waits for its client, or for the client's next line.
-poke_clients() {
-  for client in $(seq 1 "$1"); do
-    timeout 1 sh -c ": >clients/$client.requests" 2>/dev/null &
-    timeout 1 sh -c ": <clients/$client.replies" 2>/dev/null &
-  done
-}
-
-# Stops the node: the end of its input tells it to; one that doesn't end in 10 seconds is killed, which loses nothing.
+# Stops the node: the end of its input tells it to, and that no pipe is left to wait at. One that doesn't end in 10 seconds, as where
+# a caller goes on in an open session, is killed, which loses nothing.
 stop_node() {
   kill "$holder" 2>/dev/null
+  take_pipes
   for _ in $(seq 1 100); do
     kill -0 "$node" 2>/dev/null || break
-    poke_clients "$1"
     sleep 0.1
   done
   kill -9 "$node" 2>/dev/null
@@ -84,26 +90,62 @@ serve_once() {
   "$program" serve "$1" <clients/input &
   node=$!
   echo "$node" >clients/node.pid
+  echo "$holder" >clients/holder.pid
   wait "$node"
   status=$?
   kill -0 "$node" 2>/dev/null && { wait "$node"; status=$?; }
   kill "$holder" 2>/dev/null
-  rm -f clients/node.pid
+  rm -f clients/node.pid clients/holder.pid
+}
+
+# Ends what a keeper of the current folder left that could end nothing itself: its node, which loses nothing by that, and the
+# holder of the node's input; and takes the pipes away, so that no lead waits for who isn't there.
+end_what_is_left() {
+  for name in node holder; do
+    [ ! -f "clients/$name.pid" ] || kill -9 "$(cat "clients/$name.pid")" 2>/dev/null
+  done
+  take_pipes
+  rm -f clients/keeper.pid clients/node.pid clients/holder.pid clients/guard.pid
+}
+
+# Stands by the keeper of the current folder, and ends what it left where it was killed: a keeper that ends itself ends this first.
+guard_keeper() {
+  trap '' INT HUP
+  echo $$ >clients/guard.pid
+  while is_running keeper clients; do sleep 0.3; done
+  say "the keeper of $(pwd) was killed: its node is ended, and the leads go on without it until \`up\`"
+  end_what_is_left
+}
+
+# Waits until the guard of an earlier keeper is done.
+await_guard() {
+  for _ in $(seq 1 50); do
+    is_running guard clients || break
+    sleep 0.1
+  done
+}
+
+end_guard() {
+  ! is_running guard clients || kill "$(cat clients/guard.pid)" 2>/dev/null
+  rm -f clients/guard.pid
 }
 
 # Keeps the node of the current folder, with so many clients. While it is held, and of a folder that isn't to be served, the doors
-# stay open, so that no lead waits for the node; a folder that another process has is left to that.
+# stay open, so that no lead waits for the node; a folder that another process has is left to that. With the keeper the pipes go,
+# however it ends.
 keep_node() {
   mkdir -p clients
   refuse_kept clients
+  await_guard
   for client in $(seq 1 "$1"); do
     make_pipe "clients/$client.requests"
     make_pipe "clients/$client.replies"
   done
   make_pipe clients/input
   echo $$ >clients/keeper.pid
-  wanted=yes doors='' pause=1 node='' holder='' had_files=no
-  trap 'wanted=no; [ -z "$node" ] || stop_node "$1"' TERM INT
+  setsid -f "$top/qjm" cluster guard </dev/null
+  wanted=yes doors='' pause=1 node='' holder='' had_files=no status=0
+  trap 'wanted=no; [ -z "$node" ] || stop_node' TERM INT
   while [ "$wanted" = yes ]; do
     if [ -e clients/held ]; then
       [ -n "$doors" ] || open_doors "$1"
@@ -128,6 +170,9 @@ keep_node() {
     [ "$pause" -le "$LONGEST_PAUSE" ] || pause=$LONGEST_PAUSE
   done
   close_doors
+  end_guard
+  # (where another process has the folder, the pipes are its node's)
+  [ "$status" -eq 75 ] || take_pipes
   rm -f clients/keeper.pid clients/node.pid
 }
 

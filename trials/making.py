@@ -1,6 +1,6 @@
 """Makes random inputs of qjm, for trials/differ, and the bytes of edits, segments, listings and images, for trials/back and bench/ too.
 
-Everything is made after docs/FORMATS.md and docs/FILES.md. A case is a list of steps in one folder: the words of a command and its
+Everything is made after docs/FORMATS.md, EDITS.md and FILES.md. A case is a list of steps in one folder: the words of a command and its
 standard input; and the files that the folder has before the first step.
 """
 import hashlib

@@ -1,4 +1,4 @@
-//! From a listing as JSON back to a segment's file. FORMATS.md, "From a listing back to a segment's file".
+//! From a listing as JSON back to a segment's file. EDITS.md, "From a listing back to a segment's file".
 
 use crate::batch::Batch;
 use crate::edit::{is_text, read_client, Call, Edit, Record, LONGEST_NAME, LONGEST_PATH};
@@ -62,7 +62,7 @@ fn push_body(body: &mut Vec<u8>, member: &Value, txid: u64) -> Option<()> {
     (body.len() <= LONGEST_BODY).then_some(())
 }
 
-/// An object of which keys are read. FORMATS.md, "Listings of a segment's file", has the keys, "Edit records" the limits of the values.
+/// An object of which keys are read. EDITS.md, "Listings of a segment's file", has the keys, "Edit records" the limits of the values.
 struct Object<'a> {
     members: &'a BTreeMap<String, Value>,
     /// How many keys were read.

@@ -106,7 +106,10 @@ impl Caller {
 
     /// Appends a result line.
     pub fn tell(&mut self, cluster: &mut Cluster, line: &[u8]) {
-        if cluster.keeps {
+        if cluster.tells() && !cluster.keeps {
+            cluster.told.extend_from_slice(line);
+            cluster.told.push(b'\n');
+        } else if cluster.keeps {
             let asked = cluster.texts.push(line);
             self.record.push(Line { before: 0, asked, told: NOWHERE }, 0, &cluster.texts);
         }

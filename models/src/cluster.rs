@@ -3,6 +3,7 @@
 use crate::disk::{Choice, MemoryDisk};
 use crate::node::Node;
 use crate::opening;
+use crate::pipes::FarNode;
 use crate::reply::{Reason, Refusal, Reply, SegmentState};
 use crate::request::Request;
 use crate::script::Order;
@@ -94,6 +95,10 @@ impl Seat {
 /// All nodes of a play, and the texts of all lists.
 pub struct Cluster {
     seats: Vec<Seat>,
+    /// The nodes of `lead`, each in a process of its own; there are no seats then.
+    far: Vec<FarNode>,
+    /// The result lines of `lead`.
+    pub told: Vec<u8>,
     /// Whether histories and records are kept; else nothing is written at all.
     pub keeps: bool,
     pub texts: Texts,
@@ -113,7 +118,18 @@ impl Cluster {
         let mut texts = Texts::default();
         let (ok, silent) = (texts.push(b"ok"), texts.push(b"silent"));
         let seats = (0..count).map(|_| Seat::new()).collect();
-        Cluster { seats, keeps, texts, ok, silent, callers: vec![b"ops ".to_vec()], scratch: Vec::new(), length: 0 }
+        let (far, told) = (Vec::new(), Vec::new());
+        Cluster { seats, far, told, keeps, texts, ok, silent, callers: vec![b"ops ".to_vec()], scratch: Vec::new(), length: 0 }
+    }
+
+    /// Nodes at the far ends of pipes.
+    pub fn over(far: Vec<FarNode>) -> Cluster {
+        Cluster { far, ..Cluster::new(0, false) }
+    }
+
+    /// Whether results are told.
+    pub fn tells(&self) -> bool {
+        self.keeps || !self.far.is_empty()
     }
 
     /// A caller is declared; the number of what stands before its calls. Before its late copies stands the next one.
@@ -125,7 +141,7 @@ impl Cluster {
 
     /// How many nodes there are.
     pub fn count(&self) -> usize {
-        self.seats.len()
+        self.seats.len().max(self.far.len())
     }
 
     /// The final segments that hold an edit, of a node that is up. It's no call: a stop that the node holds stays.
@@ -146,7 +162,7 @@ impl Cluster {
 
     /// How many nodes are a majority. MODEL.md, "The parts".
     pub fn majority(&self) -> usize {
-        self.seats.len() / 2 + 1
+        self.count() / 2 + 1
     }
 
     /// Keeps the text of a request, where lists are kept.
@@ -173,9 +189,19 @@ impl Cluster {
         self.texts.push(&self.scratch)
     }
 
+    /// Writes a request to a far node before the replies to others are read, so that the nodes work side by side.
+    pub fn send_ahead(&mut self, node: usize, request: &Request) {
+        if let Some(far) = self.far.get_mut(node) {
+            far.send(request);
+        }
+    }
+
     /// A call reaches a node: `before` is the number of what stands before its line. The reply with its text; no reply where the node
     /// was stopped inside the call.
     pub fn call(&mut self, node: usize, before: u16, request: &Request, asked: Span) -> (Option<Reply>, Span) {
+        if let Some(far) = self.far.get_mut(node) {
+            return (far.hear(request), self.ok);
+        }
         let answer = self.seats[node].answer(request);
         let mut told = self.ok;
         if self.keeps {

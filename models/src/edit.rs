@@ -1,4 +1,4 @@
-//! Edits: their records as bytes, and their texts. FORMATS.md, "Edit records".
+//! Edits: their records as bytes, and their texts. EDITS.md, "Edit records".
 
 use crate::words::{read_number, read_octal, read_small_number, LARGEST};
 
@@ -9,7 +9,7 @@ pub struct Call {
     pub number: u32,
 }
 
-/// An edit; its texts are those of the bytes that it was read from. FORMATS.md, "Edit records", the table.
+/// An edit; its texts are those of the bytes that it was read from. EDITS.md, "Edit records", the table.
 pub enum Edit<'a> {
     Add { path: &'a [u8], replication: u16, mtime: u64, atime: u64, block_size: u64, permission: u16, user: &'a [u8], group: &'a [u8] },
     RenameOld { source: &'a [u8], destination: &'a [u8], time: u64 },
@@ -175,7 +175,7 @@ fn push_texts(bytes: &mut Vec<u8>, texts: &[&[u8]]) {
     }
 }
 
-/// Appends the fields of the kind. FORMATS.md, "Edit records", the column of fields.
+/// Appends the fields of the kind. EDITS.md, "Edit records", the column of fields.
 fn push_fields(bytes: &mut Vec<u8>, edit: &Edit) {
     match edit {
         Edit::Add { path, replication, mtime, atime, block_size, permission, user, group } => {
@@ -236,7 +236,7 @@ fn push_few_fields(bytes: &mut Vec<u8>, edit: &Edit) {
     }
 }
 
-/// The bytes of a record from some field on. FORMATS.md, "Edit records": field by field, Short before Field.
+/// The bytes of a record from some field on. EDITS.md, "Edit records": field by field, Short before Field.
 struct Fields<'a> {
     rest: &'a [u8],
 }
@@ -326,7 +326,7 @@ impl<'a> Fields<'a> {
     }
 }
 
-/// The words of an edit's text from some word on. FORMATS.md, "Edit records", the column of texts.
+/// The words of an edit's text from some word on. EDITS.md, "Edit records", the column of texts.
 struct Words<'a, I: Iterator<Item = &'a [u8]>> {
     words: I,
 }

@@ -56,8 +56,13 @@ fn write_report(report: &Report) -> ExitCode {
 
 /// A standard end as a file, which stays open.
 fn standard(descriptor: i32) -> ManuallyDrop<File> {
-    // SAFETY: the descriptors 0 and 1 are the program's own, and the file that is made of one is never closed.
+    // SAFETY: the descriptors 0 and 1 are the program's own, and the file that is made of one is closed at its end alone.
     ManuallyDrop::new(unsafe { File::from_raw_fd(descriptor) })
+}
+
+/// The standard input as a file of its own.
+pub fn input() -> File {
+    ManuallyDrop::into_inner(standard(0))
 }
 
 /// Whether a call is made again: after a signal at once, where the end isn't ready after 10 ms.

@@ -1,4 +1,4 @@
-//! The bytes of an image: a namespace at a txid. FORMATS.md, "Images".
+//! The bytes of an image: a namespace at a txid. EDITS.md, "Images".
 
 use crate::edit::Call;
 use crate::segment::Damage;

@@ -1,4 +1,4 @@
-//! Objects of JSON, written member after member. FORMATS.md, "Listings of a segment's file" and "Listings of an image".
+//! Objects of JSON, written member after member. EDITS.md, "Listings of a segment's file" and "Listings of an image".
 
 use crate::words::{push_hex, push_number};
 

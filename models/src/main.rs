@@ -1,4 +1,4 @@
-//! A model of qjm, written from its documents alone: docs/FORMATS.md, FILES.md, MODEL.md and GLOSSARY.md. It answers each command with
+//! A model of qjm, written from its documents alone: docs/FORMATS.md, EDITS.md, FILES.md, MODEL.md and GLOSSARY.md. It answers each command with
 //! the same bytes, statuses and files. Nothing of it is proved: it is there to be compared with the proved program, and to be measured
 //! beside it. Each rule names the page that it was taken from.
 
@@ -22,6 +22,7 @@ mod node;
 mod oev;
 mod oiv;
 mod opening;
+mod pipes;
 mod play;
 mod recent;
 mod reply;
@@ -78,6 +79,8 @@ fn shape(words: &[&str]) -> Result<(), usize> {
     let second: &[&str] = match words.first().copied() {
         Some("play" | "run" | "mirror" | "boot" | "node" | "fsck" | "judge") => return exact(words, 1),
         Some("gen") => return shape_with_numbers(words, 1, &OF_GEN),
+        Some("serve") => return shape_with_numbers(words, 1, &[1..=64]),
+        Some("lead") => return shape_with_numbers(words, 1, &[1..=15]),
         Some("oev") if words.get(1) == Some(&"back") => return shape_with_numbers(words, 3, &OF_BACK),
         Some("oev") => &["list", "stats", "json"],
         Some("oiv") => &["delimited", "sizes", "json"],
@@ -124,6 +127,8 @@ fn run(words: &[&str]) -> Ending {
         ["mirror"] => with_script(mirror),
         ["boot"] => with_script(boot),
         ["node"] => serve::serve(),
+        ["serve", clients] => pipes::serve(number(clients)),
+        ["lead", nodes] => pipes::lead(number(nodes) as usize),
         ["fsck"] => match fsck::check() {
             Ok((text, 0)) => Ending::Ok(text),
             Ok((text, _)) => Ending::Unsound(text),
@@ -182,7 +187,7 @@ fn list_file(name: &str, list: fn(&[u8]) -> Result<Vec<u8>, Damage>) -> Ending {
     }
 }
 
-/// Makes a segment's file of a listing. FORMATS.md, "From a listing back to a segment's file", has the order of what may be wrong.
+/// Makes a segment's file of a listing. EDITS.md, "From a listing back to a segment's file", has the order of what may be wrong.
 fn back_from_file(name: &str, start: u64, epoch: u64) -> Ending {
     let bytes = match read_file(OsStr::new(name)) {
         Ok(bytes) => bytes,

@@ -1,4 +1,4 @@
-//! The listings of a segment's file. FORMATS.md, "Listings of a segment's file".
+//! The listings of a segment's file. EDITS.md, "Listings of a segment's file".
 
 use crate::batch::Bodies;
 use crate::edit::{kind_name, Edit, Record, WITH_CALL};

@@ -1,4 +1,4 @@
-//! The listings of an image. FORMATS.md, "Listings of an image".
+//! The listings of an image. EDITS.md, "Listings of an image".
 
 use crate::image::{self, block_lengths, Rest, Row};
 use crate::json::Object;

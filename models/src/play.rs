@@ -6,16 +6,20 @@ use crate::caller::{all_before, before_call, node_digits, push_causes, Caller};
 use crate::cluster::Cluster;
 use crate::edit::Record;
 use crate::mirror;
+use crate::pipes::FarNode;
 use crate::report::{Listed, Report};
 use crate::script::{BadLine, Line, Script};
 use crate::space::Refused;
 use crate::standby::{Standby, Tailed};
 use crate::text::{self, Lines};
-use crate::words::push_next_number;
+use crate::words::{first_word, push_next_number};
 use crate::writer::{Failure, Net, Writer};
 
 /// The most bytes of a report. FORMATS.md, "The program", status 4.
 pub const LONGEST_REPORT: usize = 268_435_456;
+
+/// What `lead` is called in its own lines.
+const LEAD: &[u8] = b"lead";
 
 /// An actor: its writer, and what it has beside it where the script has names.
 struct Actor {
@@ -103,6 +107,28 @@ impl Play {
     pub fn new(keeps: bool, keeps_places: bool) -> Play {
         let cluster = Cluster::new(0, keeps);
         Play { cluster, actors: Vec::new(), operator: None, with_names: false, keeps_places, counts: Counts::default() }
+    }
+
+    /// The play of a name node alone, over nodes at the far ends of pipes.
+    pub fn over(far: Vec<FarNode>) -> Play {
+        let mut cluster = Cluster::over(far);
+        let caller = Caller::new(LEAD, &mut cluster, false);
+        let actor = Actor { caller, writer: Writer::default(), standby: Some(Standby::new()) };
+        Play { cluster, actors: vec![actor], with_names: true, ..Play::new(false, false) }
+    }
+
+    /// Takes a line of the name node alone, without its name; its result lines.
+    pub fn answer(&mut self, text: &[u8], nodes: usize) -> Vec<u8> {
+        let name = first_word(text);
+        let line = [name, b" ", LEAD, &text[name.len()..], b"\n"].concat();
+        match Script::of_line(&line, LEAD, nodes).next() {
+            _ if text.is_empty() || text.starts_with(b"#") => {}
+            Some(Ok(line @ (Line::Takeover(_) | Line::Submit(..) | Line::Roll(_) | Line::Close(_) | Line::Tail(_)))) => self.take(line),
+            Some(Ok(line @ (Line::Checkpoint(_) | Line::Reload(_)))) => self.take(line),
+            Some(Err(bad)) => self.tell_number(0, b"= bad", bad.rule),
+            _ => self.tell_number(0, b"= bad", 2),
+        }
+        std::mem::take(&mut self.cluster.told)
     }
 
     /// How many bytes its lists have so far.
@@ -230,7 +256,7 @@ impl Play {
     fn tell_acked(&mut self, actor: usize, txid: u64) {
         self.counts.edits += 1;
         self.counts.acked += 1;
-        if self.cluster.keeps {
+        if self.cluster.tells() {
             self.tell_number(actor, b"= acked", txid);
         }
     }

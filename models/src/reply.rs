@@ -1,8 +1,8 @@
 //! The replies of a node and their texts. FORMATS.md, "Replies".
 
-use crate::batch::Bodies;
-use crate::request::push_bodies;
-use crate::words::{push_next_number, push_number};
+use crate::batch::{Batch, Bodies};
+use crate::request::{push_bodies, Request};
+use crate::words::{push_next_number, push_number, read_number, split_words};
 
 /// What a refusal is for; its number is its place in the table of FORMATS.md, "Replies".
 #[derive(Clone, Copy, PartialEq, Eq)]
@@ -94,7 +94,70 @@ pub enum Reply {
     Refused(Refusal),
 }
 
+/// All reasons, in order of number.
+const REASONS: [Reason; 16] = [
+    Reason::Down,
+    Reason::Limit,
+    Reason::EpochRefused,
+    Reason::OldSerial,
+    Reason::NotWriter,
+    Reason::NoOpenSegment,
+    Reason::WrongSegment,
+    Reason::WrongTxid,
+    Reason::SegmentFinal,
+    Reason::SegmentHasEdits,
+    Reason::NoSegment,
+    Reason::OtherEpoch,
+    Reason::LengthDiffers,
+    Reason::Purged,
+    Reason::NotHere,
+    Reason::BadFile,
+];
+
 impl Reply {
+    /// Reads a reply's text; none where it is none that a name node asks for.
+    pub fn read(text: &[u8]) -> Option<Reply> {
+        let mut words = split_words(text);
+        let name = words.next()?;
+        let mut number = || words.next().and_then(read_number);
+        Some(match name {
+            b"ok" => Reply::Ok,
+            b"state" => Reply::State(number()?),
+            b"new" => Reply::NewEpoch(number()),
+            b"prepared" => {
+                let (writer, committed) = (number()?, number()?);
+                let segment = number().map(|start| read_segment(start, &mut words));
+                Reply::Prepared { writer, committed, segment: segment.map_or(Some(None), |segment| segment.map(Some))? }
+            }
+            b"edits" => {
+                let (first, mut batch) = (number()?, Batch::new());
+                if !words.all(|word| batch.push_word(word)) {
+                    return None;
+                }
+                batch.close(first);
+                Reply::Edits(Edits { first, count: batch.count(), entries: batch.entries().to_vec() })
+            }
+            b"refused" => {
+                let told = number()?;
+                let reason = *REASONS.iter().find(|reason| **reason as u64 == told)?;
+                words.next()?;
+                Reply::Refused(Refusal { reason, field: words.next().and_then(read_number) })
+            }
+            _ => return None,
+        })
+    }
+
+    /// Whether it answers such a request.
+    pub fn fits(&self, request: &Request) -> bool {
+        match request {
+            Request::State => matches!(self, Reply::State(_)),
+            Request::NewEpoch(_) => matches!(self, Reply::NewEpoch(_) | Reply::Refused(_)),
+            Request::Prepare(..) => matches!(self, Reply::Prepared { .. } | Reply::Refused(_)),
+            Request::Fetch(..) | Request::Read(_) => matches!(self, Reply::Edits(_) | Reply::Refused(_)),
+            _ => matches!(self, Reply::Ok | Reply::Refused(_)),
+        }
+    }
+
     /// Appends the reply's text.
     pub fn push_text(&self, text: &mut Vec<u8>) {
         match self {
@@ -118,6 +181,14 @@ impl Reply {
             Reply::Refused(refusal) => push_refused(text, refusal),
         }
     }
+}
+
+/// ` KIND E A END` behind a segment's start.
+fn read_segment<'a>(start: u64, words: &mut impl Iterator<Item = &'a [u8]>) -> Option<SegmentState> {
+    let is_final = words.next()? == b"final";
+    let epoch = read_number(words.next()?)?;
+    let is_accepted = words.next()? == b"yes";
+    Some(SegmentState { start, end: read_number(words.next()?)?, epoch, is_final, is_accepted })
 }
 
 /// `prepared W C none`, or `prepared W C M KIND E A END`.

@@ -1,4 +1,4 @@
-//! The row of an inode in `oiv delimited` and in reports. FORMATS.md, "Listings of an image".
+//! The row of an inode in `oiv delimited` and in reports. EDITS.md, "Listings of an image".
 
 use crate::words::push_number;
 

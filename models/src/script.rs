@@ -69,6 +69,11 @@ impl<'a> Script<'a> {
         Script { names_alone: true, ..Script::new(bytes) }
     }
 
+    /// A line of a script with names, behind the one that declares this actor.
+    pub fn of_line(line: &'a [u8], actor: &'a [u8], nodes: usize) -> Script<'a> {
+        Script { nodes, with_names: true, actors: vec![actor], ..Script::new(line) }
+    }
+
     /// The next line that says something.
     fn read_next(&mut self) -> Result<Option<Line<'a>>, Rule> {
         while !self.rest.is_empty() {

@@ -12,25 +12,33 @@ use std::fs::TryLockError;
 const LONGEST_LINE: usize = 1_048_576;
 const LONGEST_INPUT: u64 = 1_073_741_824;
 
-/// Serves the node of the current folder until the input ends.
-pub fn serve() -> Ending {
-    let Ok(folder) = Folder::open() else { return Ending::DiskFault };
-    let lock = match folder.top().try_clone() {
-        Ok(lock) => lock,
-        Err(_) => return Ending::DiskFault,
-    };
-    match lock.try_lock() {
-        Ok(()) => {}
-        Err(TryLockError::WouldBlock) => return Ending::Locked,
-        Err(TryLockError::Error(_)) => return Ending::DiskFault,
+/// The current folder, locked as long as it is there.
+pub fn open_folder() -> Result<Folder, Ending> {
+    let folder = Folder::open().map_err(|_| Ending::DiskFault)?;
+    match folder.top().try_lock() {
+        Ok(()) => Ok(folder),
+        Err(TryLockError::WouldBlock) => Err(Ending::Locked),
+        Err(TryLockError::Error(_)) => Err(Ending::DiskFault),
     }
+}
+
+/// The node of a folder.
+pub fn open_node(folder: Folder) -> Result<Node<Folder>, Ending> {
     match opening::open(folder) {
         Ok(mut node) => {
             node.recent = Some(Recent::default());
-            Session { node, pending: Vec::new(), taken: 0, line: 0 }.run()
+            Ok(node)
         }
-        Err((_, OpeningFault::Disk)) => Ending::DiskFault,
-        Err((_, OpeningFault::BadFile(name))) => Ending::BadFile(name.text()),
+        Err((_, OpeningFault::Disk)) => Err(Ending::DiskFault),
+        Err((_, OpeningFault::BadFile(name))) => Err(Ending::BadFile(name.text())),
+    }
+}
+
+/// Serves the node of the current folder until the input ends.
+pub fn serve() -> Ending {
+    match open_folder().and_then(open_node) {
+        Ok(node) => Session { node, pending: Vec::new(), taken: 0, line: 0 }.run(),
+        Err(ending) => ending,
     }
 }
 

@@ -1,10 +1,10 @@
-//! A namespace: which edits it admits, and what they do to it. FORMATS.md, "A namespace".
+//! A namespace: which edits it admits, and what they do to it. EDITS.md, "A namespace".
 
 use crate::edit::{Call, Edit, Record};
 use crate::tree::{components, is_owner, is_path, Cause, Common, Directory, File, Found, Inode, Owner, Owners};
 use std::collections::{HashMap, VecDeque};
 
-/// How many calls of clients are remembered. FORMATS.md, "A namespace".
+/// How many calls of clients are remembered. EDITS.md, "A namespace".
 pub const MOST_CALLS: usize = 1024;
 /// The greatest permission, 1777 octal.
 pub const LARGEST_PERMISSION: u16 = 0o1777;
@@ -43,7 +43,7 @@ pub struct Space {
 }
 
 impl Space {
-    /// The root alone. FORMATS.md, "Images", the image of the empty namespace.
+    /// The root alone. EDITS.md, "Images", the image of the empty namespace.
     pub fn new() -> Space {
         let mut owners = Owners::default();
         let common = Common { mtime: 0, permission: 0o755, user: owners.number(b"hdfs"), group: owners.number(b"supergroup") };

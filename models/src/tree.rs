@@ -1,9 +1,9 @@
-//! A namespace as a tree of directories, each an ordered map of its entries. MODEL.md, "A namespace and its replay"; FORMATS.md,
+//! A namespace as a tree of directories, each an ordered map of its entries. MODEL.md, "A namespace and its replay"; EDITS.md,
 //! "A namespace".
 
 use std::collections::{BTreeMap, HashMap};
 
-/// What a namespace refuses an edit for. FORMATS.md, "A namespace".
+/// What a namespace refuses an edit for. EDITS.md, "A namespace".
 #[derive(Clone, Copy, Debug, PartialEq, Eq)]
 pub enum Cause {
     NoParent = 1,
@@ -94,7 +94,7 @@ impl Directory {
         self.common.mtime = self.common.mtime.max(time);
     }
 
-    /// The inode below this one that the components lead to. FORMATS.md, "A namespace": *find p*.
+    /// The inode below this one that the components lead to. EDITS.md, "A namespace": *find p*.
     pub fn find<'a>(&mut self, mut components: impl Iterator<Item = &'a [u8]>) -> Result<Found<'_>, Cause> {
         let Some(first) = components.next() else { return Ok(Found::Directory(self)) };
         let mut directory = self;
@@ -150,7 +150,7 @@ pub fn components(path: &[u8]) -> impl Iterator<Item = &[u8]> {
     path[1..].split(|&byte| byte == b'/').filter(|component| !component.is_empty())
 }
 
-/// Whether a path is in its grammar. FORMATS.md, "A namespace".
+/// Whether a path is in its grammar. EDITS.md, "A namespace".
 pub fn is_path(path: &[u8]) -> bool {
     let is_component = |component: &[u8]| {
         (1..=255).contains(&component.len())
@@ -161,7 +161,7 @@ pub fn is_path(path: &[u8]) -> bool {
     path == b"/" || (path.first() == Some(&b'/') && path[1..].split(|&byte| byte == b'/').all(is_component))
 }
 
-/// Whether a user or a group is in its grammar. FORMATS.md, "A namespace".
+/// Whether a user or a group is in its grammar. EDITS.md, "A namespace".
 pub fn is_owner(name: &[u8]) -> bool {
     let begins = |byte: &u8| byte.is_ascii_alphabetic() || *byte == b'_';
     let goes_on = |byte: &u8| byte.is_ascii_alphanumeric() || b"_.-".contains(byte);

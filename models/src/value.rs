@@ -1,4 +1,4 @@
-//! Values of JSON, read from a text. FORMATS.md, "From a listing back to a segment's file": UTF-8 and RFC 8259, and what it says beyond.
+//! Values of JSON, read from a text. EDITS.md, "From a listing back to a segment's file": UTF-8 and RFC 8259, and what it says beyond.
 
 use std::collections::BTreeMap;
 

@@ -51,7 +51,7 @@ fn read_digits(digits: &[u8]) -> Option<u64> {
     Some(number)
 }
 
-/// An octal number of one to four digits without a leading zero. FORMATS.md, "Edit records": PERM.
+/// An octal number of one to four digits without a leading zero. EDITS.md, "Edit records": PERM.
 pub fn read_octal(word: &[u8]) -> Option<u16> {
     let plain = word == b"0" || (word.len() <= 4 && matches!(word, [b'1'..=b'7', ..]));
     if !plain || !word.iter().all(|digit| (b'0'..=b'7').contains(digit)) {

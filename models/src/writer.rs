@@ -76,6 +76,7 @@ impl Writer {
     fn round(&mut self, net: &mut Net, request: &Request, mut hear: impl FnMut(usize, Reply)) -> Result<Vec<Cause>, Failure> {
         let skips = matches!(request, Request::Journal(..) | Request::Finalize(..));
         net.caller.prepare(net.cluster, request);
+        (0..net.cluster.count()).filter(|&node| !(skips && self.left_out[node])).for_each(|node| net.cluster.send_ahead(node, request));
         let mut causes = Vec::with_capacity(net.cluster.count());
         for node in 0..net.cluster.count() {
             if skips && self.left_out[node] {

@@ -5,7 +5,7 @@ use Rattle.std.specs.Io.KnownBytes.{Appends}
 use Rattle.std.proofs.KnownBytes.{Appends-nil}
 use Rattle.base_outside.specs.Faults.{Rose}
 use Rattle.mesh.specs.Makers.{IsOfChores}
-use Rattle.pipe_seats.specs.Piped.{PipesView, AreLater, new_seats}
+use Rattle.pipe_seats.specs.Piped.{PipesView, AreLater, AreResting, new_seats}
 use Rattle.pipe_lead.specs.declared.lead_end.LeadEnd.{LeadEnd}
 use Rattle.pipe_lead.specs.declared.lead_end.LeadEnd.TheVariants as lead_end
 use Rattle.pipe_lead.specs.Leads.{Leads, IfLasts, IfLed}
@@ -100,11 +100,11 @@ module _ (end : LeadEnd) (s : Status) (mid : Option (List ℕ)) (u k : ℕ) (sin
       record { front = line.front; unless_failed = line.unless_failed; handed = λ f z. line.handed f (hands n z) }
 
   life_told : (nodes life : ℕ) (source : SourceUse) (seats : PipesView) → IfLasts end (Leads nodes seats.log source.told source.left sink.before mid end)
-      → IfLasts end (IsOfChores nodes seats.log.past) → IfLasts end (AreLater (new_seats nodes life) seats)
+      → IfLasts end (IsOfChores nodes seats.log.past) → IfLasts end (AreLater (new_seats nodes life) seats) → IfLasts end (AreResting seats.seats)
       → (end ≡ lead_end.ReadFault → AReadFailed source) → (end ≢ lead_end.ReadFault → NoReadFailed source)
       → (end ≡ lead_end.WriteFault → Rose sink.faults_before u) → (end ≢ lead_end.WriteFault → u ≡ sink.faults_before)
       → (end ≢ lead_end.WriteFault → sink.kept_before ≡ 0 → k ≡ 0) → LeadsCluster nodes life source sink s
-  life_told nodes life source seats leads made piped unread read unwritten written hands = record {
+  life_told nodes life source seats leads made piped resting unread read unwritten written hands = record {
     end = end;
     status_is = told_end.status_is;
     seats = seats;
@@ -112,6 +112,7 @@ module _ (end : LeadEnd) (s : Status) (mid : Option (List ℕ)) (u k : ℕ) (sin
     leads = leads;
     made = made;
     piped = piped;
+    resting = resting;
     line = line_behind unwritten written hands (write_or_not end);
     read_fault = λ e. unread (is_unread end (sym told_end.status_is ∙ e));
     no_read_fault = λ n. read (λ e. n (told_end.status_is ∙ ap status_after e));
@@ -123,12 +124,12 @@ module _ (end : LeadEnd) (s : Status) (mid : Option (List ℕ)) (u k : ℕ) (sin
 pub leads_cluster : (res : LeadEnd × Option PipesView) (nodes life : ℕ) (source : SourceUse) (sink : SinkUse) (mid : Option (List ℕ)) (u k : ℕ) (s : Status)
     → TellsLeadEnd res.0 s (record sink { before = mid; faults_before = u; kept_before = k })
     → IfLed res (λ seats. Leads nodes seats.log source.told source.left sink.before mid res.0) → IfLed res (λ seats. IsOfChores nodes seats.log.past)
-    → IfLed res (λ seats. AreLater (new_seats nodes life) seats)
+    → IfLed res (λ seats. AreLater (new_seats nodes life) seats) → IfLed res (λ seats. AreResting seats.seats)
     → (res.0 ≡ lead_end.ReadFault → AReadFailed source) → (res.0 ≢ lead_end.ReadFault → NoReadFailed source)
     → (res.0 ≡ lead_end.WriteFault → Rose sink.faults_before u) → (res.0 ≢ lead_end.WriteFault → u ≡ sink.faults_before)
     → (res.0 ≢ lead_end.WriteFault → sink.kept_before ≡ 0 → k ≡ 0) → LeadsCluster nodes life source sink s
-leads_cluster (end, Some seats) nodes life source sink mid u k s tells leads made piped unread read unwritten written hands =
-    life_told end s mid u k sink tells nodes life source seats leads made piped unread read unwritten written hands
-leads_cluster (end, None) nodes life source sink mid u k s tells leads made piped unread read unwritten written hands =
+leads_cluster (end, Some seats) nodes life source sink mid u k s tells leads made piped resting unread read unwritten written hands =
+    life_told end s mid u k sink tells nodes life source seats leads made piped resting unread read unwritten written hands
+leads_cluster (end, None) nodes life source sink mid u k s tells leads made piped resting unread read unwritten written hands =
     life_told end s mid u k sink tells nodes life source (new_seats nodes life) (out_of_memory end _ leads) (out_of_memory end _ leads) (out_of_memory end _ leads)
-    unread read unwritten written hands
+    (out_of_memory end _ leads) unread read unwritten written hands

@@ -2,7 +2,7 @@
 use Rattle.std.specs.Prelude.{ℕ, ◌≡◌, ◌≢◌, ◌⊎◌, List, [], Option}
 use Rattle.journal_session.specs.Lines.{longest_line}
 use Rattle.mesh.specs.Makers.{IsOfChores}
-use Rattle.pipe_seats.specs.Piped.{PipesView, AreLater, new_seats}
+use Rattle.pipe_seats.specs.Piped.{PipesView, AreLater, AreResting, new_seats}
 use Rattle.pipe_lead.specs.declared.lead_end.LeadEnd.{LeadEnd}
 use Rattle.pipe_lead.specs.declared.lead_end.LeadEnd.TheVariants as lead_end
 use Rattle.pipe_lead.specs.Leads.{Leads, IfLasts}
@@ -37,7 +37,8 @@ pub record TellsLeadEnd (end : LeadEnd) (s : Status) (sink : SinkUse) : Type 0 w
 
 -- A name node's life, but where memory ran out: its seats at its end, with the record that an actor
 -- lists of the lines that were read, by what it heard; the calls of its tasks and tails; what came
--- to each node's pipe; the results; and why it ended. Then its end was told.
+-- to each node's pipe, of which none is owed a reply; the results; and why it ended. Then its end was
+-- told.
 pub record LeadsCluster (nodes life : ℕ) (source : SourceUse) (sink : SinkUse) (s : Status) : Type 0 where
   pub end : LeadEnd
   pub status_is : s ≡ status_after end
@@ -46,6 +47,7 @@ pub record LeadsCluster (nodes life : ℕ) (source : SourceUse) (sink : SinkUse)
   pub leads : IfLasts end (Leads nodes seats.log source.told source.left sink.before told end)
   pub made : IfLasts end (IsOfChores nodes seats.log.past)
   pub piped : IfLasts end (AreLater (new_seats nodes life) seats)
+  pub resting : IfLasts end (AreResting seats.seats)
   pub line : WritesLine (line_after end) (record sink { before = told })
   pub read_fault : s ≡ status.ReadFault → AReadFailed source
   pub no_read_fault : s ≢ status.ReadFault → NoReadFailed source

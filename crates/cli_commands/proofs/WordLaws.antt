@@ -9,7 +9,7 @@ use Rattle.base_words.specs.WordNumbers.{is_number}
 use Rattle.base_words.proofs.NumberLaws.{told_number}
 use Rattle.play_script.specs.Words.{greatest}
 use Rattle.play_script.proofs.NumberLaws.{number_is, number_again}
-use Rattle.play_maker.specs.Generated.{IsWithin}
+use Rattle.play_script.specs.Generated.{IsWithin}
 use Rattle.cli_commands.specs.declared.tool.SegmentTool.{SegmentTool}
 use Rattle.cli_commands.specs.declared.tool.SegmentTool.TheVariants as segment
 use Rattle.cli_commands.specs.declared.tool.ImageTool.{ImageTool}

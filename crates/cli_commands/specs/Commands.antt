@@ -1,7 +1,7 @@
 -- The commands, and the words that ask for them.
 use Rattle.std.specs.Prelude.{ℕ, ◌≡◌, ◌≤◌, List, [], ◌∷◌, codes, decimal}
 use Rattle.journal_core.specs.Limits.{max_number}
-use Rattle.play_maker.specs.Generated.{IsWithin}
+use Rattle.play_script.specs.Generated.{IsWithin}
 use Rattle.cli_commands.specs.declared.tool.SegmentTool.{SegmentTool}
 use Rattle.cli_commands.specs.declared.tool.SegmentTool.TheVariants as segment
 use Rattle.cli_commands.specs.declared.tool.ImageTool.{ImageTool}

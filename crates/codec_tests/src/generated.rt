@@ -1,9 +1,8 @@
 //! Generated scripts: their texts, as a second implementation prints them.
-ghost use Rattle.play_maker.specs.Generated.{IsWithin};
+ghost use Rattle.play_script.specs.Generated.{IsWithin};
 
 use base_words::OutOfMemory;
-use play_maker::generate;
-use play_script::print_script;
+use play_script::{generate, print_script};
 use std::alloc::Global;
 use std::test::Fail;
 

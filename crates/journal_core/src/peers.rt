@@ -40,6 +40,31 @@ pub trait Peers {
         ensures nodes { nodes self.new ≡ nodes self.old }
         ensures called { OnOk result (called self.old self.new) };
 
+    /// Whether these peers make use of what `announce` tells. Takes no memory.
+    fn has_ahead(&self) -> bool {
+        false
+    }
+
+    /// Tells which nodes a round calls next, in order, and what it asks them, before the first of
+    /// these calls: peers that stand apart may send the request to all of them at once, so that
+    /// they answer side by side. No call is made of it: each is still made by `call`.
+    /// `OutOfMemory` is the only error; a call that was announced and isn't made next is one too.
+    fn announce(
+        &mut self,
+        alloc: Global,
+        asked: &[usize],
+        request: &SharedRequest,
+    ) -> Result<(), OutOfMemory>
+        ensures unlisted { calls self.new ≡ calls self.old }
+        ensures nodes { nodes self.new ≡ nodes self.old }
+        ensures called { OnOk result (called self.old self.new) }
+    {
+        let _ = alloc;
+        let _ = asked;
+        let _ = request;
+        Ok(())
+    }
+
     ghost called_none: { (peers : Self) → called peers peers };
 
     ghost called_on: { (p q r : Self) → called p q → called q r → called p r };

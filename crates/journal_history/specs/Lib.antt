@@ -4,3 +4,5 @@ pub mod Moving
 pub mod CellLaws
 pub mod NodeCells
 pub mod Same
+pub mod Held
+pub mod Listed

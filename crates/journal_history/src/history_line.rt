@@ -1,7 +1,8 @@
 //! A node's history.
-ghost use Rattle.std.specs.Prelude.{◌≡◌, ◌++◌, ◌<◌, ◌^◌, [], ◌∷◌, List, OnOk, OnErr, length};
+ghost use Rattle.std.specs.Prelude.{IfOk, ◌≡◌, ◌++◌, ◌<◌, ◌^◌, [], ◌∷◌, List, OnOk, OnErr, length};
 ghost use Rattle.journal_history.specs.declared.history_line.HistoryLine.{HistoryLine};
 
+use crate::listed_line::ListedLine;
 use crate::node_ask::{NodeAnswer, NodeAsk};
 use journal_core::OutOfMemory;
 use std::alloc::Global;
@@ -27,10 +28,39 @@ impl Drop for HistoryLine {
     }
 }
 
+impl HistoryLine {
+    /// This line as a list holds it, in memory of its own unless it is of a request that is
+    /// answered by ok. `OutOfMemory` where there is no room.
+    fn into_listed(self, alloc: Global) -> Result<ListedLine, OutOfMemory>
+        ensures { IfOk result (λ listed. listed ≡ self) }
+    {
+        let HistoryLine {
+            caller,
+            ask,
+            answer,
+        } = self;
+        let ask = match ask.into_act() {
+            Ok((late, request)) if answer.is_ok() => {
+                return Ok(ListedLine::plain(caller, late, request));
+            }
+            Ok((late, request)) => NodeAsk::Act { late, request },
+            Err(ask) => ask,
+        };
+        ListedLine::other(
+            alloc,
+            HistoryLine {
+                caller,
+                ask,
+                answer,
+            },
+        )
+    }
+}
+
 /// A node's history, the oldest line first. It is let go by one call wherever it is, which keeps
 /// proofs short.
 pub struct HistoryList {
-    items: Vec<HistoryLine>,
+    items: Vec<ListedLine>,
 }
 
 impl Drop for HistoryList {
@@ -41,7 +71,7 @@ impl Drop for HistoryList {
 }
 
 impl Model for HistoryList {
-    ghost use Rattle.std.specs.Prelude.{List};
+    ghost use Rattle.std.specs.Prelude.{IfOk, List};
     ghost use Rattle.journal_history.specs.declared.history_line.HistoryLine.{HistoryLine};
 
     ghost Value = { List HistoryLine };
@@ -60,7 +90,7 @@ impl HistoryList {
     }
 
     /// The lines.
-    pub fn as_slice(&self) -> &[HistoryLine]
+    pub fn as_slice(&self) -> &[ListedLine]
         ensures { result.now ≡ self.now }
     {
         self.items.as_slice()
@@ -72,6 +102,7 @@ impl HistoryList {
         ensures room { OnOk result (length self.new < 2 ^ 63) }
         ensures err { OnErr result (self.new ≡ self.old) }
     {
+        let line = line.into_listed(*self.items.allocator())?;
         self.items.push(line)?;
         Ok(())
     }

@@ -1,6 +1,8 @@
 //! What reaches a node, and what it answers.
-ghost use Rattle.std.specs.Prelude.{◌≡◌, IfOk};
+ghost use Rattle.std.specs.Prelude.{◌≡◌, IfOk, IfErr, IsTrue, ◌↔◌};
+ghost use Rattle.journal_history.specs.declared.node_ask.NodeAsk.TheVariants.{Act};
 ghost use Rattle.journal_history.specs.Cell.{heard_of};
+ghost use Rattle.journal_history.specs.Listed.{ok_answer, shown_ask};
 
 use crate::shared_stop::SharedStop;
 use journal_core::{Heard, NodeFail, OutOfMemory, Reply, SharedRequest};
@@ -17,6 +19,25 @@ pub enum NodeAsk {
     Restart,
     /// Stop inside the `calls`-th next request that reaches the node while it is up.
     Arm { calls: u64, stop: SharedStop },
+}
+
+/// What is asked of a node in one step, lent.
+#[derive(Clone, Copy)]
+pub enum LentAsk<'a> {
+    /// A request; `late` tells a copy that came late, whose reply goes to nobody.
+    Act {
+        late: bool,
+        request: &'a SharedRequest,
+    },
+    /// Go down.
+    Kill,
+    /// Come up again.
+    Restart,
+    /// Stop inside the `calls`-th next request that reaches the node while it is up.
+    Arm {
+        calls: u64,
+        stop: &'a SharedStop,
+    },
 }
 
 /// What came of it. It is let go by one call wherever it is, which keeps proofs short.
@@ -48,19 +69,57 @@ impl Drop for NodeAsk {
 }
 
 impl NodeAsk {
+    /// What is asked, lent.
+    pub fn lend(&self) -> LentAsk<'_>
+        ensures { shown_ask result ≡ self.now }
+    {
+        match self {
+            NodeAsk::Act { late, request } => LentAsk::Act {
+                late: *late,
+                request,
+            },
+            NodeAsk::Kill => LentAsk::Kill,
+            NodeAsk::Restart => LentAsk::Restart,
+            NodeAsk::Arm { calls, stop } => LentAsk::Arm {
+                calls: *calls,
+                stop,
+            },
+        }
+    }
+
+    /// A request, and whether it is a copy that came late; or whatever else is asked.
+    pub(crate) fn into_act(self) -> Result<(bool, SharedRequest), NodeAsk>
+        ensures act { IfOk result (λ act. self ≡ Act act.0 act.1) }
+        ensures other { IfErr result (λ ask. ask ≡ self) }
+    {
+        match self {
+            NodeAsk::Act { late, request } => Ok((late, request)),
+            ask => Err(ask),
+        }
+    }
+
     /// A copy of this ask; a request is shared. `OutOfMemory` is the only error.
     pub fn share(&self) -> Result<NodeAsk, OutOfMemory>
         ensures { IfOk result (λ ask. ask ≡ self.now) }
     {
+        self.lend().share()
+    }
+}
+
+impl LentAsk<'_> {
+    /// A copy of this ask; a request is shared. `OutOfMemory` is the only error.
+    pub fn share(self) -> Result<NodeAsk, OutOfMemory>
+        ensures { IfOk result (λ ask. ask ≡ shown_ask self.entry) }
+    {
         Ok(match self {
-            NodeAsk::Act { late, request } => NodeAsk::Act {
-                late: *late,
+            LentAsk::Act { late, request } => NodeAsk::Act {
+                late,
                 request: request.share()?,
             },
-            NodeAsk::Kill => NodeAsk::Kill,
-            NodeAsk::Restart => NodeAsk::Restart,
-            NodeAsk::Arm { calls, stop } => NodeAsk::Arm {
-                calls: *calls,
+            LentAsk::Kill => NodeAsk::Kill,
+            LentAsk::Restart => NodeAsk::Restart,
+            LentAsk::Arm { calls, stop } => NodeAsk::Arm {
+                calls,
                 stop: stop.share()?,
             },
         })
@@ -93,6 +152,16 @@ impl Drop for NodeAnswer {
 }
 
 impl NodeAnswer {
+    /// What most requests are answered.
+    pub const OK: NodeAnswer = NodeAnswer::Replied(Reply::Ok);
+
+    /// The node replied by ok.
+    pub(crate) fn is_ok(&self) -> bool
+        ensures { IsTrue result ↔ (self.now ≡ ok_answer) }
+    {
+        matches!(self, NodeAnswer::Replied(Reply::Ok))
+    }
+
     /// What a caller hears of it.
     pub fn into_heard(self) -> Heard
         ensures { result ≡ heard_of self }

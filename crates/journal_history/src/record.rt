@@ -1,7 +1,9 @@
 //! A caller's record.
-ghost use Rattle.std.specs.Prelude.{◌≡◌, ◌++◌, [], ◌∷◌, List, OnOk, OnErr};
+ghost use Rattle.std.specs.Prelude.{IfOk, ◌≡◌, ◌++◌, [], ◌∷◌, List, OnOk, OnErr, IsTrue, ◌↔◌};
 ghost use Rattle.journal_history.specs.declared.record.Record.{Record};
+ghost use Rattle.journal_history.specs.Listed.{ok_told};
 
+use crate::listed_record::ListedRecord;
 use crate::node_ask::NodeAsk;
 use journal_core::{Bytes, OutOfMemory, Reply, SharedRequest};
 use std::alloc::Global;
@@ -57,6 +59,18 @@ impl Drop for Told {
     }
 }
 
+impl Told {
+    /// What most callers are told.
+    pub const OK: Told = Told::Reply(Reply::Ok);
+
+    /// The node's reply is ok.
+    pub(crate) fn is_ok(&self) -> bool
+        ensures { IsTrue result ↔ (self.now ≡ ok_told) }
+    {
+        matches!(self, Told::Reply(Reply::Ok))
+    }
+}
+
 impl Drop for Record {
     fn drop(self) {
         match self {
@@ -79,10 +93,28 @@ impl Drop for Record {
     }
 }
 
+impl Record {
+    /// This line as a list holds it, in memory of its own unless it is a call that was answered by
+    /// ok, or a result. `OutOfMemory` where there is no room.
+    fn into_listed(self, alloc: Global) -> Result<ListedRecord, OutOfMemory>
+        ensures { IfOk result (λ listed. listed ≡ self) }
+    {
+        match self {
+            Record::Call {
+                node,
+                request,
+                told,
+            } if told.is_ok() => Ok(ListedRecord::plain(node, request)),
+            Record::Outcome { text } => Ok(ListedRecord::outcome(text)),
+            line => ListedRecord::other(alloc, line),
+        }
+    }
+}
+
 /// A caller's record, the oldest line first. It is let go by one call wherever it is, which keeps
 /// proofs short.
 pub struct RecordList {
-    items: Vec<Record>,
+    items: Vec<ListedRecord>,
 }
 
 impl Drop for RecordList {
@@ -93,7 +125,7 @@ impl Drop for RecordList {
 }
 
 impl Model for RecordList {
-    ghost use Rattle.std.specs.Prelude.{List};
+    ghost use Rattle.std.specs.Prelude.{IfOk, List};
     ghost use Rattle.journal_history.specs.declared.record.Record.{Record};
 
     ghost Value = { List Record };
@@ -112,7 +144,7 @@ impl RecordList {
     }
 
     /// The lines.
-    pub fn as_slice(&self) -> &[Record]
+    pub fn as_slice(&self) -> &[ListedRecord]
         ensures { result.now ≡ self.now }
     {
         self.items.as_slice()
@@ -123,6 +155,7 @@ impl RecordList {
         ensures ok { OnOk result (self.new ≡ self.old ++ line ∷ []) }
         ensures err { OnErr result (self.new ≡ self.old) }
     {
+        let line = line.into_listed(*self.items.allocator())?;
         self.items.push(line)?;
         Ok(())
     }

@@ -2,4 +2,11 @@ pub mod PrintLaws
 pub mod WordLaws
 pub mod ReadLaws
 pub mod BodyLaws
+pub mod Spaced
 pub mod LineLaws
+pub mod EditLaws
+pub mod RefusalLaws
+pub mod Found
+pub mod Sound
+pub mod Back
+pub mod Texts

@@ -1,11 +1,10 @@
 -- A request's text is read as the request.
 use Rattle.std.proofs.Common.{ℕ, ◌≡◌, ◌<◌, ◌≤◌, ◌+◌, ◌^◌, ◌/◌, ◌%◌, ◌==◌, ◌&&◌, List, [], ◌∷◌, ◌++◌, length, map, drop, Option, Some, Bool, true}
-use Rattle.std.proofs.Common.{false, not, cond, nat_lt, refl, sym, ap, ◌∙◌, subst, arith, zero, suc, append_assoc, append-nil, length-append, decimal}
+use Rattle.std.proofs.Common.{false, not, cond, nat_lt, refl, sym, ap, ◌∙◌, subst, arith, suc, append_assoc, append-nil, length-append, decimal}
 use Rattle.std.proofs.lemmas.Bool.Decides.{nat_tests}
 use Rattle.std.proofs.lemmas.List.{drop_at, length-map}
-use Rattle.std.proofs.lemmas.List.Splits.{slice_split_at, slice_split_none}
-use Rattle.std.proofs.lemmas.Fmt.{decimal_by_steps, decimal_nonempty}
-use Rattle.std.specs.List.{list_any, All, AllByRecursion}
+use Rattle.std.proofs.lemmas.Fmt.{decimal_nonempty}
+use Rattle.std.specs.List.{list_any, AllByRecursion}
 use Rattle.journal_core.specs.declared.request.Request.{Request}
 use Rattle.journal_core.specs.declared.request.Request.TheVariants as request
 use Rattle.journal_text.specs.declared.request_word.RequestWord.{RequestWord}
@@ -13,70 +12,27 @@ use Rattle.journal_text.specs.declared.request_word.RequestWord.TheVariants as w
 use Rattle.journal_text.specs.declared.request_line.ReadRequest.{ReadRequest}
 use Rattle.journal_text.specs.declared.request_line.ReadRequest.TheVariants.{Read}
 use Rattle.journal_core.specs.Limits.{bodies_of}
-use Rattle.base_words.specs.Words.{is_space, is_empty, words_of, first_word}
-use Rattle.base_words.specs.Hex.{hex_digit, hex_text}
+use Rattle.base_words.specs.Words.{is_empty, words_of, first_word}
+use Rattle.base_words.specs.Hex.{hex_text}
 use Rattle.base_words.proofs.WordLaws.{some_of, first_first}
 use Rattle.journal_text.specs.Texts.{numbers_text, bodies_text, request_text}
 use Rattle.journal_text.specs.Reading.{word_text, word_of, leasts_of, has_bodies, fits_count, put_first, numbers_in, bodies_in, made, by_bodies, by_numbers, by_count, by_word, reading_of}
 use Rattle.journal_text.proofs.WordLaws.{number_read}
 use Rattle.journal_text.proofs.BodyLaws.{bodies_read}
 use Rattle.journal_text.specs.Lines.{word_for, numbers_for, AreNumbers, IsBody, IsRequest}
+use Rattle.journal_text.proofs.Spaced.{NoSpace, AreApart, spaced_all, bodies_apart, decimal_no_space, words_back}
 
--- ## Words without a space
-abbrev NoSpace : List ℕ → Type 0
-NoSpace [] = Unit {0}
-NoSpace (b ∷ bs) = (is_space b ≡ false) × NoSpace bs
-
-NoSpace-append : (xs ys : List ℕ) → NoSpace xs → NoSpace ys → NoSpace (xs ++ ys)
-NoSpace-append [] ys h k = k
-NoSpace-append (x ∷ xs) ys h k = (h.0, NoSpace-append xs ys h.1 k)
-
-each_no_space : (xs : List ℕ) → NoSpace xs → All (λ b. is_space b ≡ false) xs
-each_no_space [] h k d l = absurd (omega arith)
-each_no_space (x ∷ xs) h zero d l = h.0
-each_no_space (x ∷ xs) h (suc k) d l = each_no_space xs h.1 k d (omega arith)
-
-digit_apart : (b : ℕ) → 48 ≤ b → is_space b ≡ false
-digit_apart b l = grind (arith, nat_tests)
-
-decimal_no_space : (n : ℕ) → n < 2 ^ 64 → NoSpace (decimal n)
-decimal_no_space n h =
-    decimal_by_steps (λ m ds. NoSpace ds) (λ m l. (digit_apart (48 + m) (omega arith), tt))
-    (λ m ds l k. NoSpace-append ds ((48 + m % 10) ∷ []) k (digit_apart (48 + m % 10) (omega arith), tt)) n h
-
-hex_apart : (d : ℕ) → is_space (hex_digit d) ≡ false
-hex_apart d = grind (arith, nat_tests)
-
-hex_no_space : (bs : List ℕ) → NoSpace (hex_text bs)
-unfolding hex_text
-hex_no_space [] = tt
-hex_no_space (b ∷ bs) = (hex_apart (b / 16), (hex_apart (b % 16), hex_no_space bs))
-
--- ## The words of joined words
-abbrev joined : List (List ℕ) → List ℕ
-joined [] = []
-joined (w ∷ ws) = 32 ∷ w ++ joined ws
-
-abbrev AreApart : List (List ℕ) → Type 0
-AreApart [] = Unit {0}
-AreApart (w ∷ ws) = NoSpace w × AreApart ws
-
-words_joined : (ws : List (List ℕ)) (w : List ℕ) → NoSpace w → AreApart ws → words_of (w ++ joined ws) ≡ w ∷ ws
-unfolding words_of
-words_joined [] w h k = ap words_of (append-nil w) ∙ slice_split_none is_space w (each_no_space w h)
-words_joined (v ∷ vs) w h k =
-    slice_split_at is_space w 32 (v ++ joined vs) (each_no_space w h) refl ∙ ap (λ (us : List (List ℕ)). w ∷ us) (words_joined vs v k.0 k.1)
-
-joined-append : (ws vs : List (List ℕ)) → joined (ws ++ vs) ≡ joined ws ++ joined vs
+-- ## The words of words with a space before each
+joined-append : (ws vs : List (List ℕ)) → spaced_all (ws ++ vs) ≡ spaced_all ws ++ spaced_all vs
 joined-append [] vs = refl
-joined-append (w ∷ ws) vs = ap (λ xs. 32 ∷ (w ++ xs)) (joined-append ws vs) ∙ ap (λ xs. 32 ∷ xs) (sym (append_assoc w (joined ws) (joined vs)))
+joined-append (w ∷ ws) vs = ap (λ xs. 32 ∷ (w ++ xs)) (joined-append ws vs) ∙ ap (λ xs. 32 ∷ xs) (sym (append_assoc w (spaced_all ws) (spaced_all vs)))
 
-numbers_joined : (ns : List ℕ) → numbers_text ns ≡ joined (map decimal ns)
+numbers_joined : (ns : List ℕ) → numbers_text ns ≡ spaced_all (map decimal ns)
 unfolding numbers_text
 numbers_joined [] = refl
 numbers_joined (n ∷ ns) = ap (λ xs. 32 ∷ (decimal n ++ xs)) (numbers_joined ns)
 
-bodies_joined : (bs : List (List ℕ)) → bodies_text bs ≡ joined (map hex_text bs)
+bodies_joined : (bs : List (List ℕ)) → bodies_text bs ≡ spaced_all (map hex_text bs)
 unfolding bodies_text
 bodies_joined [] = refl
 bodies_joined (b ∷ bs) = ap (λ xs. 32 ∷ (hex_text b ++ xs)) (bodies_joined bs)
@@ -90,10 +46,6 @@ numbers_apart [] [] h = tt
 numbers_apart [] (n ∷ ns) h = absurd h
 numbers_apart (l ∷ ls) [] h = absurd h
 numbers_apart (l ∷ ls) (n ∷ ns) h = (decimal_no_space n h.1, numbers_apart ls ns h.2)
-
-bodies_apart : (bs : List (List ℕ)) → AreApart (map hex_text bs)
-bodies_apart [] = tt
-bodies_apart (b ∷ bs) = (hex_no_space b, bodies_apart bs)
 
 -- ## A number's and a body's word
 numbers_read : (ls ns : List ℕ) (rest : List (List ℕ)) → AreNumbers ls ns → numbers_in ls (map decimal ns ++ rest) ≡ Some ns
@@ -196,10 +148,10 @@ text_parts (request.Purge h m) = ap (λ xs. word_text word.Purge ++ xs) (sym (ap
 text_parts (request.Read f) = ap (λ xs. word_text word.Read ++ xs) (sym (append-nil (numbers_text (f ∷ []))))
 text_parts request.Manifest = refl
 
-text_joined : (r : Request) → request_text r ≡ word_text (word_for r) ++ joined (words_for r)
+text_joined : (r : Request) → request_text r ≡ word_text (word_for r) ++ spaced_all (words_for r)
 text_joined r =
     text_parts r ∙ ap (λ xs. word_text (word_for r) ++ (xs ++ bodies_text (bodies_of r))) (numbers_joined (numbers_for r))
-    ∙ ap (λ xs. word_text (word_for r) ++ (joined (map decimal (numbers_for r)) ++ xs)) (bodies_joined (bodies_of r))
+    ∙ ap (λ xs. word_text (word_for r) ++ (spaced_all (map decimal (numbers_for r)) ++ xs)) (bodies_joined (bodies_of r))
     ∙ ap (λ xs. word_text (word_for r) ++ xs) (sym (joined-append (map decimal (numbers_for r)) (map hex_text (bodies_of r))))
 
 made_again : (r : Request) → made (word_for r) (numbers_for r) (bodies_of r) ≡ r
@@ -243,7 +195,7 @@ text_read r h =
     let w = word_for r in
     let ws = words_for r in
     let split : words_of (request_text r) ≡ word_text w ∷ ws =
-    ap words_of (text_joined r) ∙ words_joined ws (word_text w) (word_apart w)
+    ap words_of (text_joined r) ∙ words_back ws (word_text w) (word_apart w)
     (apart-append (map decimal (numbers_for r)) (map hex_text (bodies_of r)) (numbers_apart (leasts_of w) (numbers_for r) h.numbers)
     (bodies_apart (bodies_of r))) in
     let first : first_word (word_text w ∷ ws) ≡ word_text w = first_first (word_text w) ws (word_some w) in

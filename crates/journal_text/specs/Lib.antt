@@ -3,3 +3,5 @@ pub mod Reading
 pub mod Words
 pub mod Lines
 pub mod ExampleTexts
+pub mod ReplyReading
+pub mod Exact

@@ -1,5 +1,5 @@
 //! What counts the calls that threads make.
-use play_gates::Pass;
+use play_threads::Pass;
 use std::sync::Wait;
 use std::sync::atomic::{AtomicU64, Ordering};
 

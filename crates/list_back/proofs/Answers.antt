@@ -6,8 +6,8 @@ use Rattle.serde_json.specs.Data.{Data, Items, null, boolean, number, string, ar
 use Rattle.serde_json.specs.Find.{as_array}
 use Rattle.serde_json.specs.Read.{read}
 use Rattle.serde_json.specs.View.{items_of}
-use Rattle.edit_json.specs.Members.{IsOrdered}
-use Rattle.edit_json.proofs.Orders.{read_ordered}
+use Rattle.list_back.specs.Members.{IsOrdered}
+use Rattle.list_back.proofs.Orders.{read_ordered}
 use Rattle.list_back.specs.declared.answer.Back.{Back}
 use Rattle.list_back.specs.declared.answer.Back.TheVariants.{NotJson, TooLong, BadEntry, Segment, OutOfMemory}
 use Rattle.list_back.specs.Opening.{opens_array}

@@ -1,3 +1,12 @@
+pub mod Lines
+pub mod Orders
+pub mod Found
+pub mod Rows
+pub mod Sound
+pub mod FieldValues
+pub mod Readings
+pub mod Entries
+pub mod Coding
 pub mod Written
 pub mod Made
 pub mod SoFar

@@ -9,8 +9,8 @@ use Rattle.serde_json.specs.Data.{Data, Items, no_items, item, array}
 use Rattle.serde_json.specs.Read as reading
 use Rattle.serde_json.specs.Read.{read, of_json, max_depth}
 use Rattle.serde_json.specs.View as views
-use Rattle.edit_json.specs.Texts.{ItemsHaveTexts}
-use Rattle.edit_json.proofs.Lines.{line_reads, line_text}
+use Rattle.list_back.specs.Texts.{ItemsHaveTexts}
+use Rattle.list_back.proofs.Lines.{line_reads, line_text}
 use Rattle.journal_core.specs.Views.{BatchView}
 use Rattle.journal_core.specs.Limits.{max_number, max_body, max_segment}
 use Rattle.disk_frame.specs.Frames.{is_bad_body, AreInOrder}
@@ -22,9 +22,9 @@ use Rattle.list_oev.specs.Segment.{AreRecords, IsSegment}
 use Rattle.list_oev.specs.declared.segment_listing.SegmentListing.{SegmentListing as Listed}
 use Rattle.list_oev.specs.Listed.{IsListed, GivesText}
 use Rattle.list_oev.proofs.OneAnswer.{gives_text}
-use Rattle.edit_json.specs.Objects.{IsObject}
-use Rattle.edit_json.proofs.Sound.{entry_reads, entry_numbers, entry_texts, entry_depth}
-use Rattle.edit_json.proofs.Entries.{object_of_edit}
+use Rattle.list_back.specs.Objects.{IsObject}
+use Rattle.list_back.proofs.Sound.{entry_reads, entry_numbers, entry_texts, entry_depth}
+use Rattle.list_back.proofs.Entries.{object_of_edit}
 use Rattle.list_back.specs.declared.answer.Back.{Back}
 use Rattle.list_back.specs.declared.answer.Back.TheVariants.{NotJson, TooLong, BadEntry, Segment, OutOfMemory}
 use Rattle.list_back.specs.Pieces.{segment_bytes}

@@ -7,8 +7,8 @@ use Rattle.serde_json.specs.Data.{Data}
 use Rattle.journal_core.specs.Limits.{max_number, max_body}
 use Rattle.disk_frame.specs.Frames.{is_bad_body}
 use Rattle.edit_ops.specs.Records.{EditView, record_of}
-use Rattle.edit_json.specs.Objects.{IsObject}
-use Rattle.edit_json.proofs.Entries.{one_object}
+use Rattle.list_back.specs.Objects.{IsObject}
+use Rattle.list_back.proofs.Entries.{one_object}
 use Rattle.list_back.specs.Entries.{IsEntry, AreEntries}
 use Rattle.list_back.specs.Backs.{HasBadEntry}
 use Rattle.list_back.proofs.Written.{AreGood}

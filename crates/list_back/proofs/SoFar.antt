@@ -6,7 +6,7 @@ use Rattle.list_text.proofs.Ascii.{each_at}
 use Rattle.serde_json.specs.Data.{Data}
 use Rattle.serde_json.specs.View.{view}
 use Rattle.serde_json.specs.declared.value.Value.{Value}
-use Rattle.edit_json.specs.Members.{IsOrdered}
+use Rattle.list_back.specs.Members.{IsOrdered}
 use Rattle.journal_core.specs.Limits.{max_number}
 use Rattle.edit_ops.specs.Records.{EditView, record_of}
 use Rattle.list_back.specs.declared.segment_writer.SegmentWriter.{SegmentWriter}

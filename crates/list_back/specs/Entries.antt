@@ -5,8 +5,8 @@ use Rattle.edit_ops.specs.declared.field_fault.ReadError.{ReadError}
 use Rattle.edit_ops.specs.declared.field_fault.ReadError.TheVariants as errors
 use Rattle.edit_ops.specs.Records.{EditView, record_of}
 use Rattle.journal_core.specs.Limits.{max_number, max_body}
-use Rattle.edit_json.specs.declared.bad_object.BadObject.{BadObject}
-use Rattle.edit_json.specs.Objects.{IsObject}
+use Rattle.list_back.specs.declared.bad_object.BadObject.{BadObject}
+use Rattle.list_back.specs.Objects.{IsObject}
 
 -- the value is the object of the edit at the txid, which is at most 2^62, and the edit's record is
 -- short enough

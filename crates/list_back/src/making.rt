@@ -3,7 +3,7 @@ ghost use Rattle.std.specs.Prelude.{◌≡◌, ◌≤◌, ℕ, [], List, length,
 ghost use Rattle.std.specs.List.{AllByRecursion};
 ghost use Rattle.serde_json.specs.Data.{Data, array};
 ghost use Rattle.serde_json.specs.View.{view, items_of};
-ghost use Rattle.edit_json.specs.Members.{IsOrdered};
+ghost use Rattle.list_back.specs.Members.{IsOrdered};
 ghost use Rattle.journal_core.specs.Limits.{max_number, max_segment};
 ghost use Rattle.edit_ops.specs.Records.{EditView};
 ghost use Rattle.list_oev.specs.Entries.{entry_lines};

@@ -3,15 +3,16 @@ ghost use Rattle.std.specs.Prelude.{◌≡◌, ◌+◌, ◌≤◌, [], length, m
 ghost use Rattle.edit_ops.specs.Records.{record_of};
 ghost use Rattle.std.specs.List.{AllByRecursion};
 ghost use Rattle.serde_json.specs.View.{view};
-ghost use Rattle.edit_json.specs.Members.{IsOrdered};
+ghost use Rattle.list_back.specs.Members.{IsOrdered};
 ghost use Rattle.journal_core.specs.Limits.{max_number, max_segment};
 ghost use Rattle.list_back.specs.Entries.{IsReadBody};
 ghost use Rattle.list_back.specs.Backs.{IsMade};
 
+use crate::bad_object::BadObject;
+use crate::reading::read_object;
 use crate::segment_writer::SegmentWriter;
 use base_words::{Bytes, MAX, OutOfMemory};
 use edit_codec::encode_in;
-use edit_json::{BadObject, read_object};
 use edit_ops::{Edit, ReadError};
 use journal_core::MAX_BODY;
 use serde_json::Value;

@@ -8,7 +8,7 @@ use Rattle.std.proofs.lemmas.Bool.Decides.{nat_tests}
 use Rattle.ns_tree.specs.declared.inode.Inode.{Inode}
 use Rattle.ns_tree.specs.declared.inode.Inode.TheVariants.{Dir, File}
 use Rattle.ns_tree.specs.declared.inode.Row.{Row}
-use Rattle.ns_path.specs.Path.{is_path, is_owner, is_letter, is_owner_byte, all_owner_bytes, is_component_byte, all_component_bytes, is_dot_name, is_component, are_components}
+use Rattle.ns_tree.specs.Path.{is_path, is_owner, is_letter, is_owner_byte, all_owner_bytes, is_component_byte, all_component_bytes, is_dot_name, is_component, are_components}
 use Rattle.ns_tree.specs.Space.{IsInode}
 use Rattle.list_text.proofs.Ascii.{AreSmall, ascii_of}
 use Rattle.list_text.specs.Permissions.{has_bit, letter, kind_letter, letters}

@@ -2,7 +2,7 @@
 ghost use Rattle.std.specs.Prelude.{◌≡◌, true};
 ghost use Rattle.json.specs.Tree.{json_tokens};
 ghost use Rattle.list_text.specs.Written.{Adds};
-ghost use Rattle.ns_path.specs.Path.{is_path};
+ghost use Rattle.ns_tree.specs.Path.{is_path};
 ghost use Rattle.ns_tree.specs.Space.{IsInode};
 ghost use Rattle.list_text.specs.Columns.{columns_of, shown};
 ghost use Rattle.ns_tree.specs.declared.inode.Row.{Row};

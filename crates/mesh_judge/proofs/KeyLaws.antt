@@ -1,5 +1,5 @@
 -- A request to a node is read back from its key; and how often lists were counted after one more.
-use Rattle.std.proofs.Common.{◌≡◌, ℕ, zero, suc, ◌+◌, ◌-◌, ◌<◌, ◌==◌, ◌⊎◌, inl, inr, List, [], ◌∷◌, ◌++◌, Bool, true, false, cond, Option, Some, None, refl, sym, ap, ◌∙◌, arith, get_or, drop, Decides}
+use Rattle.std.proofs.Common.{◌≡◌, ℕ, zero, suc, ◌+◌, ◌-◌, ◌<◌, ◌==◌, ◌⊎◌, inl, inr, List, [], ◌∷◌, ◌++◌, Bool, true, false, cond, Option, Some, None, refl, sym, ap, ◌∙◌, arith, get_or, drop, length, Decides}
 use Rattle.std.specs.Prelude.{Vec, ◌&&◌, if◌then◌else◌, unwrap_or}
 use Rattle.std.specs.Ordering.{is_eq, nat_cmp, match_ordering}
 use Rattle.std.specs.declared.cmp.Ordering.{Ordering}
@@ -12,6 +12,7 @@ use Rattle.std.specs.Str.{bytes_eq}
 use Rattle.std.proofs.lemmas.Bool.{true≢false, and_parts, and_from, eqb-true, eq-eqb}
 use Rattle.std.proofs.lemmas.Bool.Decides.{same_from_decides}
 use Rattle.std.proofs.lemmas.Slice.Eq.{bytes_eq-Decides}
+use Rattle.std.proofs.lemmas.List.{nil_from_length}
 use Rattle.std.proofs.lemmas.Map.Text.{is_eq-slice_cmp}
 use Rattle.journal_core.specs.Views.{HeadView, BatchView}
 use Rattle.journal_core.specs.declared.request.Request.{Request}
@@ -183,6 +184,18 @@ at_key old new key node n p is set k r = by (is_ask k r node p) refl
           ap (λ (i : ℕ). count_of old (ask_key i r)) same.0 ∙ ap (λ (x : Request). count_of old (ask_key node x)) same.1,
         )
     by false e = inr (e, set (ask_key k r) ∙ ap (λ (b : Bool). cond b n (count_of old (ask_key k r))) (test ∙ e))
+
+-- nothing was counted in a map without entries
+pub none_counted : (counts : Counts) → length counts.counts.entries ≡ 0 → (key : List ℕ) → count_of counts key ≡ 0
+none_counted counts e key = ap (λ (es : List (Vec ℕ Global × ℕ)). unwrap_or (lookup (finds key) es) 0) (nil_from_length counts.counts.entries e)
+
+-- no more copies are due
+pub none_added : (due : Counts) (node count : ℕ) (p : Request) → count ≡ 0 → (k : ℕ) (r : Request) → count_of due (ask_key k r) ≡ count_of due (ask_key k r) + cond (is_ask k r node p) count 0
+none_added due node count p e k r = by (is_ask k r node p)
+  where
+    by : (b : Bool) → count_of due (ask_key k r) ≡ count_of due (ask_key k r) + cond b count 0
+    by true = omega (arith, e)
+    by false = omega arith
 
 pub due_added : (old new : Counts) (key : List ℕ) (node before count : ℕ) (p : Request) → key ≡ ask_key node p → before ≡ count_of old key
     → ((q : List ℕ) → count_of new q ≡ cond (bytes_eq q key) (before + count) (count_of old q))

@@ -384,6 +384,14 @@ none_due nodes plan lines calls k q t b is h =
       λ c. is ∙ eq-eqb (count_of calls.due (ask_key k q)) 0 (omega (arith, e, c)),
     )
 
+-- where nothing is due all came
+pub nothing_due : (nodes : ℕ) (plan : List Mark) (lines : List Record) (calls : CallTable) (line : Record) → ((key : List ℕ) → count_of calls.due key ≡ 0)
+    → KnowsCalls nodes plan lines calls → Decides true (LineIsCopied plan lines line)
+nothing_due nodes plan lines calls (Call k q t) none h = none_due nodes plan lines calls k q t true (sym (ap (λ (n : ℕ). n == 0) (none (ask_key k q)))) h
+nothing_due nodes plan lines calls (Late k q) none h = (λ y. tt, λ c. refl)
+nothing_due nodes plan lines calls (Operator k a d) none h = (λ y. tt, λ c. refl)
+nothing_due nodes plan lines calls (Outcome x) none h = (λ y. tt, λ c. refl)
+
 -- a request that is marked was asked by a call of the record
 abbrev Calls : List Record → ℕ → Request → Type 0
 Calls rs k q = (t : Told) × Contains rs (Call k q t)

@@ -11,7 +11,7 @@ ghost use Rattle.mesh_judge.specs.Callers.{Knows, KnowsAll};
 use crate::reached::{Reach, ReachList, reached_by_node};
 use crate::won::won_epochs;
 use journal_core::OutOfMemory;
-use journal_history::Record;
+use journal_history::ListedRecord;
 use mesh::Mesh;
 use std::alloc::Global;
 use std::collections::BTreeSet;
@@ -25,7 +25,7 @@ pub(crate) struct Caller {
 
 impl Caller {
     /// The caller of this record, among that many nodes.
-    fn of(alloc: Global, nodes: usize, lines: &[Record]) -> Result<Caller, OutOfMemory>
+    fn of(alloc: Global, nodes: usize, lines: &[ListedRecord]) -> Result<Caller, OutOfMemory>
         requires { AreWithin nodes lines.now }
         ensures { IfOk result (λ caller. Knows nodes lines.now caller) }
     {

@@ -1,5 +1,5 @@
 //! How often lists of numbers were counted.
-ghost use Rattle.std.specs.Prelude.{◌≡◌, ℕ, List, OnOk, if◌then◌else◌};
+ghost use Rattle.std.specs.Prelude.{◌≡◌, ℕ, List, true, OnOk, if◌then◌else◌};
 ghost use Rattle.std.specs.Str.{bytes_eq};
 ghost use Rattle.mesh_judge.specs.Keys.{count_of};
 
@@ -21,6 +21,14 @@ impl Counts {
         Counts {
             counts: BTreeMap::new(alloc),
         }
+    }
+
+    /// Whether no list was counted so far.
+    #[tactic(auto, using(crate::proofs::KeyLaws::none_counted))]
+    pub(crate) fn is_empty(&self) -> bool
+        ensures { result ≡ true → (key : List ℕ) → count_of self.now key ≡ 0 }
+    {
+        self.counts.is_empty()
     }
 
     /// How often this list was counted.

@@ -6,7 +6,7 @@ ghost use Rattle.mesh.specs.Matches.{IsWithin, AreWithin};
 ghost use Rattle.mesh_judge.specs.Leading.{is_call, hears, is_read, next_pass, after_pass, reads, pass_from, begins, goes_on, all_go_on, between, stand_of, stands_of, AllLive, AreAlike, EndAlike, MakeAlike, Follows};
 
 use journal_core::{Heard, OutOfMemory, Reply, Request};
-use journal_history::{Record, Told, same};
+use journal_history::{LentRecord, ListedRecord, Told, same};
 use std::alloc::Global;
 use writer_core::{Task, Writer};
 
@@ -282,21 +282,21 @@ fn after_line(
     alloc: Global,
     nodes: usize,
     candidates: Vec<Candidate>,
-    line: &Record,
+    line: &ListedRecord,
 ) -> Result<Vec<Candidate>, OutOfMemory>
     requires within { IsWithin nodes line.now }
     requires live { 0 < nodes → AllLive (stands_of candidates.items) }
     ensures { IfOk result (λ after. Follows nodes (stands_of candidates.items) line.now (stands_of after.items)) }
 {
-    match line {
-        Record::Call {
+    match line.lend(&Told::OK) {
+        LentRecord::Call {
             node,
             request,
             told,
-        } => after_call(alloc, candidates, *node, request.get(), told),
-        Record::Late { .. } => Ok(candidates),
-        Record::Outcome { .. } => Ok(candidates),
-        Record::Operator { .. } => Ok(Vec::new(alloc)),
+        } => after_call(alloc, candidates, node, request.get(), told),
+        LentRecord::Late { .. } => Ok(candidates),
+        LentRecord::Outcome { .. } => Ok(candidates),
+        LentRecord::Operator { .. } => Ok(Vec::new(alloc)),
     }
 }
 
@@ -320,7 +320,11 @@ fn some_left(candidates: &[Candidate]) -> bool
 /// The calls of a record are those of some chores of one caller, by the answers that it has. A
 /// journal request may be a log's or end a segment: each candidate that goes on is led, until the
 /// next calls tell.
-pub fn is_of_chores(alloc: Global, nodes: usize, lines: &[Record]) -> Result<bool, OutOfMemory>
+pub fn is_of_chores(
+    alloc: Global,
+    nodes: usize,
+    lines: &[ListedRecord],
+) -> Result<bool, OutOfMemory>
     requires { AreWithin nodes lines.now }
     ensures { IfOk result (λ is_made. Decides is_made (IsOfChores nodes lines.now)) }
 {

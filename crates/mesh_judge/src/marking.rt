@@ -15,7 +15,7 @@ ghost use Rattle.mesh_judge.specs.Marking.{as_marked, HasNodes, HasRoom, IsDue, 
 use crate::counts::Counts;
 use crate::request_key::key_of;
 use journal_core::{OutOfMemory, Request};
-use journal_history::{Mark, MarkKind, Record, Told};
+use journal_history::{LentRecord, ListedRecord, Mark, MarkKind, Told};
 use std::alloc::Global;
 use std::collections::BTreeSet;
 
@@ -168,28 +168,29 @@ fn is_line_marked(
     alloc: Global,
     marks: &MarkTable,
     calls: &CallTable,
-    line: &Record,
+    line: &ListedRecord,
 ) -> Result<bool, OutOfMemory>
     requires within { IsWithin (length calls.now.next.items) line.now }
     requires nodes { HasNodes (length calls.now.next.items) marks.now }
     ensures { IfOk result (λ is_marked. (plan : List Mark) (before : List Record) → KnowsPlan (length calls.now.next.items) plan marks.now → KnowsCalls (length calls.now.next.items) plan before calls.now → Decides is_marked (LineIsMarked plan before line.now)) }
 {
-    match line {
-        Record::Call { node, told, .. } => {
-            let number = calls.next[*node - 1];
-            let is_dropped = marks.dropped[*node - 1].set.contains(&number);
-            let is_muted = marks.muted[*node - 1].set.contains(&number);
+    match line.lend(&Told::OK) {
+        LentRecord::Call { node, told, .. } => {
+            let number = calls.next[node - 1];
+            let is_dropped = marks.dropped[node - 1].set.contains(&number);
+            let is_muted = marks.muted[node - 1].set.contains(&number);
             Ok(as_marked(told, is_dropped, is_muted))
         }
-        Record::Late { node, request } => {
-            let key = key_of(alloc, *node, request.get())?;
+        LentRecord::Late { node, request } => {
+            let key = key_of(alloc, node, request.get())?;
             Ok(0 < calls.due.get(key.as_slice()))
         }
-        Record::Operator { .. } | Record::Outcome { .. } => Ok(true),
+        LentRecord::Operator { .. } | LentRecord::Outcome { .. } => Ok(true),
     }
 }
 
-/// So many more copies of a request to a node are due.
+/// So many more copies of a request to a node are due; of most requests none is.
+#[tactic(auto, using(crate::proofs::KeyLaws::none_added))]
 fn add_due(
     alloc: Global,
     due: &mut Counts,
@@ -200,6 +201,9 @@ fn add_due(
     requires { count_of due.old (ask_key node request.now) + count < 2 ^ 64 }
     ensures { OnOk result ((k : ℕ) (r : Request) → count_of due.new (ask_key k r) ≡ count_of due.old (ask_key k r) + (if is_ask k r node request.now then count else 0)) }
 {
+    if count == 0 {
+        return Ok(());
+    }
     let key = key_of(alloc, node, request)?;
     let before = due.get(key.as_slice());
     due.set(key, before + count)?;
@@ -227,7 +231,7 @@ fn push_line(
     alloc: Global,
     marks: &MarkTable,
     calls: &mut CallTable,
-    line: &Record,
+    line: &ListedRecord,
 ) -> Result<(), OutOfMemory>
     requires within { IsWithin (length calls.old.next.items) line.now }
     requires due { IsDue calls.old line.now }
@@ -235,20 +239,20 @@ fn push_line(
     requires room { (i : ℕ) → i < length calls.old.next.items → slice_index calls.old.next.items i + 1 < 2 ^ 64 }
     ensures { OnOk result ((plan : List Mark) (before : List Record) → KnowsPlan (length calls.old.next.items) plan marks.now → KnowsCalls (length calls.old.next.items) plan before calls.old → KnowsCalls (length calls.old.next.items) plan (before ++ line.now ∷ []) calls.new) }
 {
-    match line {
-        Record::Call { node, request, .. } => {
-            let number = calls.next[*node - 1];
-            let marked = marks.late.get(&[*node as u64, number]);
-            add_due(alloc, &mut calls.due, *node, request.get(), marked)?;
-            calls.next[*node - 1] = number + 1;
+    match line.lend(&Told::OK) {
+        LentRecord::Call { node, request, .. } => {
+            let number = calls.next[node - 1];
+            let marked = marks.late.get(&[node as u64, number]);
+            add_due(alloc, &mut calls.due, node, request.get(), marked)?;
+            calls.next[node - 1] = number + 1;
             Ok(())
         }
-        Record::Late { node, request } => {
-            take_due(alloc, &mut calls.due, *node, request.get())?;
+        LentRecord::Late { node, request } => {
+            take_due(alloc, &mut calls.due, node, request.get())?;
             Ok(())
         }
-        Record::Operator { .. } => Ok(()),
-        Record::Outcome { .. } => Ok(()),
+        LentRecord::Operator { .. } => Ok(()),
+        LentRecord::Outcome { .. } => Ok(()),
     }
 }
 
@@ -257,7 +261,7 @@ fn calls_in(
     alloc: Global,
     nodes: usize,
     plan: &[Mark],
-    lines: &[Record],
+    lines: &[ListedRecord],
 ) -> Result<Option<CallTable>, OutOfMemory>
     requires { AreWithin nodes lines.now }
     ensures { IfOk result (λ led. MatchOption led (IsMarked plan.now [] lines.now → ⊥) (λ calls. IsMarked plan.now [] lines.now × KnowsCalls nodes plan.now lines.now calls)) }
@@ -275,20 +279,30 @@ fn calls_in(
 }
 
 /// The line is no call, or none of the copies of what it asked is due.
-fn is_line_copied(alloc: Global, calls: &CallTable, line: &Record) -> Result<bool, OutOfMemory>
+#[tactic(auto, using(crate::proofs::MarkLaws::nothing_due))]
+fn is_line_copied(
+    alloc: Global,
+    calls: &CallTable,
+    line: &ListedRecord,
+) -> Result<bool, OutOfMemory>
     ensures { IfOk result (λ is_copied. (nodes : ℕ) (plan : List Mark) (lines : List Record) → KnowsCalls nodes plan lines calls.now → Decides is_copied (LineIsCopied plan lines line.now)) }
 {
-    match line {
-        Record::Call { node, request, .. } => {
-            let key = key_of(alloc, *node, request.get())?;
+    if calls.due.is_empty() {
+        return Ok(true);
+    }
+    match line.lend(&Told::OK) {
+        LentRecord::Call { node, request, .. } => {
+            let key = key_of(alloc, node, request.get())?;
             Ok(calls.due.get(key.as_slice()) == 0)
         }
-        Record::Late { .. } | Record::Operator { .. } | Record::Outcome { .. } => Ok(true),
+        LentRecord::Late { .. } | LentRecord::Operator { .. } | LentRecord::Outcome { .. } => Ok(
+            true,
+        ),
     }
 }
 
 /// None of the copies is due after all lines.
-fn are_copied(alloc: Global, calls: &CallTable, lines: &[Record]) -> Result<bool, OutOfMemory>
+fn are_copied(alloc: Global, calls: &CallTable, lines: &[ListedRecord]) -> Result<bool, OutOfMemory>
     ensures { IfOk result (λ are_copied. (nodes : ℕ) (plan : List Mark) → KnowsCalls nodes plan lines.now calls.now → Decides are_copied (AreCopied plan lines.now)) }
 {
     for line in lines {
@@ -307,7 +321,7 @@ pub(crate) fn goes_by_plan(
     alloc: Global,
     nodes: usize,
     plan: &[Mark],
-    lines: &[Record],
+    lines: &[ListedRecord],
 ) -> Result<bool, OutOfMemory>
     requires { AreWithin nodes lines.now }
     ensures { IfOk result (λ goes. Decides goes (IsMarked plan.now [] lines.now × AreCopied plan.now lines.now)) }

@@ -1,6 +1,7 @@
 //! Whether of each node and each caller both list the same.
 ghost use Rattle.std.specs.Prelude.{◌≡◌, ◌<◌, ◌≤◌, ◌+◌, ℕ, [], Decides, IfOk, length, slice_index_or, replicate};
 ghost use Rattle.journal_history.specs.declared.node_ask.NodeAsk.TheVariants.{Act};
+ghost use Rattle.journal_history.specs.Listed.{shown_ask};
 ghost use Rattle.mesh.specs.Agree.{operator_of, history_at};
 ghost use Rattle.mesh.specs.Matches.{StandsFor, done_or_idle, IsSame, reached, CallersWithin};
 ghost use Rattle.mesh_judge.specs.Matching.{IsNext, KnowsPlaces, KnowsAllPlaces, AreSameAt};
@@ -9,7 +10,7 @@ ghost use Rattle.mesh_judge.specs.Parts.{IsSized, RecordsWithin, HistoriesWithin
 use crate::equality::{same_reply, same_request};
 use crate::reached::{ReachList, reached_by_node};
 use journal_core::{OutOfMemory, Request};
-use journal_history::{HistoryLine, NodeAnswer, NodeAsk, Record, Told};
+use journal_history::{LentAsk, LentRecord, ListedLine, ListedRecord, NodeAnswer, Told};
 use mesh::Mesh;
 use std::alloc::Global;
 
@@ -20,27 +21,27 @@ pub(crate) struct ReachTable {
 }
 
 /// It is this request, or a late copy of it.
-fn is_request(ask: &NodeAsk, is_late: bool, request: &Request) -> bool
-    ensures { Decides result (ask.now ≡ Act is_late request.now) }
+fn is_request(ask: LentAsk<'_>, is_late: bool, request: &Request) -> bool
+    ensures { Decides result (shown_ask ask.entry ≡ Act is_late request.now) }
 {
     match ask {
-        NodeAsk::Act {
+        LentAsk::Act {
             late,
             request: other,
-        } => *late == is_late && same_request(other.get(), request),
-        NodeAsk::Kill | NodeAsk::Restart | NodeAsk::Arm { .. } => false,
+        } => late == is_late && same_request(other.get(), request),
+        LentAsk::Kill | LentAsk::Restart | LentAsk::Arm { .. } => false,
     }
 }
 
 /// Both ask for the same.
-fn same_ask(a: &NodeAsk, b: &NodeAsk) -> bool
-    ensures { Decides result (a.now ≡ b.now) }
+fn same_ask(a: LentAsk<'_>, b: LentAsk<'_>) -> bool
+    ensures { Decides result (shown_ask a.entry ≡ shown_ask b.entry) }
 {
     match (a, b) {
-        (a, NodeAsk::Act { late, request }) => is_request(a, *late, request.get()),
-        (NodeAsk::Kill, NodeAsk::Kill) => true,
-        (NodeAsk::Restart, NodeAsk::Restart) => true,
-        (NodeAsk::Arm { calls: a, stop: s }, NodeAsk::Arm { calls: b, stop: t }) => {
+        (a, LentAsk::Act { late, request }) => is_request(a, late, request.get()),
+        (LentAsk::Kill, LentAsk::Kill) => true,
+        (LentAsk::Restart, LentAsk::Restart) => true,
+        (LentAsk::Arm { calls: a, stop: s }, LentAsk::Arm { calls: b, stop: t }) => {
             a == b && s.get() == t.get()
         }
         _ => false,
@@ -72,29 +73,31 @@ fn is_done_or_idle(answer: &NodeAnswer, done: bool) -> bool
 
 /// The caller's line and the node's are of one event.
 #[tactic(auto, unfolding(mesh::specs::Matches::IsSame))]
-pub fn is_same(line: &Record, at_node: &HistoryLine) -> bool
+pub fn is_same(line: &ListedRecord, at_node: &ListedLine) -> bool
     ensures { Decides result (IsSame line.now at_node.now) }
 {
-    match line {
-        Record::Call { request, told, .. } => {
-            is_request(&at_node.ask, false, request.get()) && stands_for(told, &at_node.answer)
+    let ok = NodeAnswer::OK;
+    let at_node = at_node.lend(&ok);
+    match line.lend(&Told::OK) {
+        LentRecord::Call { request, told, .. } => {
+            is_request(at_node.ask, false, request.get()) && stands_for(told, at_node.answer)
         }
-        Record::Late { request, .. } => is_request(&at_node.ask, true, request.get()),
-        Record::Operator { ask, done, .. } => {
-            same_ask(&at_node.ask, ask) && is_done_or_idle(&at_node.answer, *done)
+        LentRecord::Late { request, .. } => is_request(at_node.ask, true, request.get()),
+        LentRecord::Operator { ask, done, .. } => {
+            same_ask(at_node.ask, ask) && is_done_or_idle(at_node.answer, done)
         }
-        Record::Outcome { .. } => false,
+        LentRecord::Outcome { .. } => false,
     }
 }
 
 /// The line of the record that reached the node with this index, from 0, after so many others is
 /// the node's line.
 fn is_next(
-    lines: &[Record],
+    lines: &[ListedRecord],
     table: &ReachTable,
     index: usize,
     number: usize,
-    at_node: &HistoryLine,
+    at_node: &ListedLine,
 ) -> bool
     requires known { KnowsPlaces lines.now table.now }
     requires node { index < length table.now.by_node.items }
@@ -145,7 +148,7 @@ fn are_same_at(
     let records = mesh.records.as_slice();
     let mut taken = none_taken(alloc, tables.len())?;
     for line in mesh.histories.as_slice()[index].as_slice() {
-        let caller = line.caller as usize;
+        let caller = line.caller() as usize;
         let number = taken[caller];
         if !is_next(
             records[caller].as_slice(),

@@ -6,7 +6,7 @@ ghost use Rattle.journal_history.specs.Moving.{epoch_of, is_at_once, is_refused_
 ghost use Rattle.mesh_judge.specs.Events.{call_event, stop_event, moved_by};
 
 use journal_core::{OutOfMemory, Refusal, Reply, Request, SharedRequest};
-use journal_history::{HistoryLine, NodeAnswer, NodeAsk};
+use journal_history::{LentAsk, ListedLine, NodeAnswer};
 use run_safety::{Event, Fate};
 
 /// What moved a node, and the epoch under which it moved; none of a kill, a restart, or a stop
@@ -131,17 +131,19 @@ fn moved_by_request(
 #[tactic(auto, unfolding(journal_history::specs::Moving::entry_of, journal_history::specs::Moving::move_of))]
 pub(crate) fn moved_by(
     node: usize,
-    line: &HistoryLine,
+    line: &ListedLine,
     muted: bool,
 ) -> Result<Option<Moved>, OutOfMemory>
     ensures { IfOk result (λ moved. moved ≡ moved_by (entry_of (record { node = node; line = line.now; muted = muted }))) }
 {
-    let event = match (&line.ask, &line.answer) {
-        (NodeAsk::Act { late, request }, answer) => {
-            return moved_by_request(node, line.caller, *late, muted, request, answer);
+    let ok = NodeAnswer::OK;
+    let line = line.lend(&ok);
+    let event = match (line.ask, line.answer) {
+        (LentAsk::Act { late, request }, answer) => {
+            return moved_by_request(node, line.caller, late, muted, request, answer);
         }
-        (NodeAsk::Kill, NodeAnswer::Done) => Event::Kill { node },
-        (NodeAsk::Restart, NodeAnswer::Done) => Event::Restart { node },
+        (LentAsk::Kill, NodeAnswer::Done) => Event::Kill { node },
+        (LentAsk::Restart, NodeAnswer::Done) => Event::Restart { node },
         _ => return Ok(None),
     };
     Ok(Some(Moved { event, epoch: None }))

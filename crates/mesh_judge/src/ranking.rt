@@ -69,9 +69,10 @@ fn rank_history(
         place: 0,
     };
     for line in mesh.histories.as_slice()[index].as_slice() {
-        let caller = &callers[line.caller as usize];
-        let number = taken[line.caller as usize];
-        taken[line.caller as usize] = number + 1;
+        let place = line.caller() as usize;
+        let caller = &callers[place];
+        let number = taken[place];
+        taken[place] = number + 1;
         let reach = caller.reach(index, number);
         let Some(Moved { event, epoch }) = moved_by(index + 1, line, reach.is_muted)? else {
             continue;

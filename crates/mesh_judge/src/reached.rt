@@ -6,7 +6,7 @@ ghost use Rattle.mesh.specs.Matches.{AreWithin, IsWithin};
 ghost use Rattle.mesh_judge.specs.Reaches.{node_reached, places};
 
 use journal_core::OutOfMemory;
-use journal_history::{Record, Told};
+use journal_history::{LentRecord, ListedRecord, Told};
 use std::alloc::Global;
 use std::marker::Model;
 
@@ -60,28 +60,28 @@ impl ReachList {
 }
 
 /// The node that a line reached: a call that wasn't delivered, and a result, reached none.
-pub fn node_reached(line: &Record) -> Option<usize>
+pub fn node_reached(line: &ListedRecord) -> Option<usize>
     ensures { result ≡ node_reached line.now }
 {
-    match line {
-        Record::Call {
+    match line.lend(&Told::OK) {
+        LentRecord::Call {
             told: Told::Dropped,
             ..
         } => None,
-        Record::Call { node, .. } | Record::Late { node, .. } | Record::Operator { node, .. } => {
-            Some(*node)
-        }
-        Record::Outcome { .. } => None,
+        LentRecord::Call { node, .. }
+        | LentRecord::Late { node, .. }
+        | LentRecord::Operator { node, .. } => Some(node),
+        LentRecord::Outcome { .. } => None,
     }
 }
 
 /// The line is a call whose reply was lost.
-fn is_muted(line: &Record) -> bool
+fn is_muted(line: &ListedRecord) -> bool
     ensures { result ≡ is_muted (Some line.now) }
 {
     matches!(
-        line,
-        Record::Call {
+        line.lend(&Told::OK),
+        LentRecord::Call {
             told: Told::Muted,
             ..
         }
@@ -103,7 +103,7 @@ fn empty_lists(alloc: Global, nodes: usize) -> Result<Vec<ReachList>, OutOfMemor
 pub fn reached_by_node(
     alloc: Global,
     nodes: usize,
-    lines: &[Record],
+    lines: &[ListedRecord],
 ) -> Result<Vec<ReachList>, OutOfMemory>
     requires { AreWithin nodes lines.now }
     ensures count { IfOk result (λ lists. length lists.items ≡ nodes) }

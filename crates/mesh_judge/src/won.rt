@@ -7,7 +7,7 @@ ghost use Rattle.mesh.specs.Owners.{wins, promised_to};
 ghost use Rattle.mesh_judge.specs.Tallies.{promises_to, wins_on};
 
 use journal_core::{MAX_NUMBER, OutOfMemory, Reply, Request};
-use journal_history::{Record, Told};
+use journal_history::{LentRecord, ListedRecord, Told};
 use std::alloc::Global;
 use std::collections::BTreeSet;
 
@@ -76,20 +76,22 @@ impl Tally {
     }
 
     /// The next line of the caller's record.
-    fn take(&mut self, nodes: usize, line: &Record) -> Result<(), OutOfMemory>
+    fn take(&mut self, nodes: usize, line: &ListedRecord) -> Result<(), OutOfMemory>
         requires room { self.old.promises + 1 < 2 ^ 64 }
         ensures count { OnOk result (self.new.promises ≤ self.old.promises + 1) }
         ensures won { OnOk result ((epoch : ℕ) (rest : List Record) → wins_on nodes self.new epoch rest ≡ wins_on nodes self.old epoch (line.now ∷ rest)) }
     {
-        let Record::Call { request, told, .. } = line else {
-            return Ok(());
-        };
-        match request.get() {
-            Request::NewEpoch { epoch } => self.propose(nodes, *epoch, told),
-            _ => {
-                self.close(nodes)?;
-                Ok(())
-            }
+        match line.lend(&Told::OK) {
+            LentRecord::Call { request, told, .. } => match request.get() {
+                Request::NewEpoch { epoch } => self.propose(nodes, *epoch, told),
+                _ => {
+                    self.close(nodes)?;
+                    Ok(())
+                }
+            },
+            LentRecord::Late { .. } => Ok(()),
+            LentRecord::Operator { .. } => Ok(()),
+            LentRecord::Outcome { .. } => Ok(()),
         }
     }
 }
@@ -98,7 +100,7 @@ impl Tally {
 pub(crate) fn won_epochs(
     alloc: Global,
     nodes: usize,
-    lines: &[Record],
+    lines: &[ListedRecord],
 ) -> Result<BTreeSet<u64>, OutOfMemory>
     ensures { IfOk result (λ won. (epoch : ℕ) → contains nat_cmp won epoch ≡ wins nodes epoch 0 lines.now) }
 {

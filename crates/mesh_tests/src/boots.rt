@@ -2,12 +2,12 @@
 //! a disk that has one, over disks of which each call fails in turn.
 use crate::plays::play_text_on;
 use base_disk::{Choice, Disk, MemDisk, UntoldDisk};
-use journal_mirror::Direct;
 use ns_image::ImageCause;
 use ns_store::{LoadedBytes, Newest, load_bytes, newest, save_bytes};
 use play_boot::{Booted, bootstrap};
 use std::alloc::Global;
 use std::test::Fail;
+use writer_calls::Direct;
 
 /// A name node saves an image at 3, and logs the entries from 4 to 6 after it.
 const CHECKPOINT: &str =

@@ -1,7 +1,7 @@
 //! Two actors that are at their calls at one time.
 use crate::running::run_text;
 use mesh::Mesh;
-use play_gates::Pass;
+use play_threads::Pass;
 use std::sync::Wait;
 use std::sync::atomic::{AtomicU64, Ordering};
 use std::test::Fail;
@@ -60,7 +60,7 @@ impl Pass for Holds {
 fn first_caller(mesh: &Mesh) -> Option<u32> {
     let history = mesh.histories.as_slice().first()?;
     let line = history.as_slice().first()?;
-    Some(line.caller)
+    Some(line.caller())
 }
 
 #[test]

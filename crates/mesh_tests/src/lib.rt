@@ -1,6 +1,10 @@
-//! Tests of what plays leave and their texts don't show: which lists agree, in which order the
-//! epochs put what moved the nodes, what threads leave that overlap, what a mirror of the nodes
-//! gives, the images of the actors and the files of the nodes, and how a standby boots over them.
+//! Tests of lists and of threads: lists of plays and of runs by threads agree, and their epochs put
+//! what moved the nodes in an order; lists that must not agree; what threads leave that overlap,
+//! what a mirror of the nodes gives, the images of the actors and the files of the nodes, and how a
+//! standby boots over them.
+//!
+//! Tests of pipes: calls over a pipe with stale replies, cut lines and failing ends; a round's
+//! requests before its replies; and a session of tagged lines.
 #![tactic(auto)]
 
 #[cfg(test)]
@@ -24,11 +28,17 @@ mod nodes_left;
 #[cfg(test)]
 mod ordering;
 #[cfg(test)]
+mod pipes;
+#[cfg(test)]
 mod plays;
 #[cfg(test)]
 mod replayed;
 #[cfg(test)]
 mod running;
+#[cfg(test)]
+mod served;
+#[cfg(test)]
+mod side_by_side;
 #[cfg(test)]
 mod threads;
 #[cfg(test)]

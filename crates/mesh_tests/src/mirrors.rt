@@ -1,10 +1,10 @@
 //! A mirror of the nodes that plays leave: what it gives, and what a second pass adds.
 use crate::plays::play_text;
 use journal_core::{Batch, Bytes};
-use journal_mirror::{Direct, Mirror, MirrorRead, Synced};
 use std::alloc::Global;
 use std::process::Abort;
 use std::test::Fail;
+use writer_calls::{Direct, Mirror, MirrorRead, Synced};
 use writer_core::Cause;
 
 const ONE_DOWN: &str = "raw 3\nwriter a\nkill 1\ntakeover a\nlog a 0a\nclose a\n";

@@ -1,9 +1,8 @@
 //! The disks of nodes that a play leaves.
 use base_disk::{Disk, DiskFail, MemDisk};
 use disk_node::{JournalNode, fresh_nodes};
-use play_actor::ScriptActor;
+use play_actor::{ScriptActor, play_on};
 use play_model::scripts_are_playable;
-use play_order::play_on;
 use play_script::{ReadScript, read_script, scripts_break_no_rule};
 use std::alloc::Global;
 use std::test::Fail;

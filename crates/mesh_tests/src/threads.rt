@@ -4,7 +4,7 @@ use crate::draws::{Draws, draw_script};
 use crate::plays::order_of;
 use crate::replayed::are_replayed;
 use crate::running::run_text;
-use play_gates::FreePass;
+use play_threads::FreePass;
 use std::alloc::Global;
 use std::process::Abort;
 use std::sync::Wait;

@@ -1,7 +1,7 @@
 //! Two threads at one gate: whichever comes first, their calls stand one behind the other.
 ghost use Rattle.std.specs.Prelude.{◌≡◌, IfOk};
 
-use play_gates::{Closed, Gate, GateCell, GateSeat, OutOfMemory};
+use play_threads::{Closed, Gate, GateCell, GateSeat, OutOfMemory};
 use std::alloc::{AllocError, Global};
 use std::process::Abort;
 use std::sync::Wait;

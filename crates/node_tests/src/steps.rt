@@ -4,7 +4,7 @@ ghost use Rattle.std.specs.Prelude.{◌≢◌, [], IfOk};
 ghost use Rattle.writer_core.specs.Writer.{HasBody};
 
 use journal_core::{BodyList, Bytes, Refusal, Reply, Request, SharedRequest};
-use journal_history::{NodeAnswer, NodeAsk, Stop};
+use journal_history::{LentAsk, NodeAnswer, Stop};
 use journal_step::PlainNode;
 use run_safety::{Event, Fate};
 use run_world::{Seen, World};
@@ -197,8 +197,8 @@ fn asked(world: &World<PlainNode>, line: usize) -> Result<SharedRequest, Fail> {
         return Err("no such node".into());
     }
     let line = world.history(1).get(line).ok_or("no such line")?;
-    match &line.ask {
-        NodeAsk::Act { late: _, request } => Ok(request.share()?),
+    match line.lend(&NodeAnswer::OK).ask {
+        LentAsk::Act { late: _, request } => Ok(request.share()?),
         _ => Err("no request".into()),
     }
 }
@@ -243,7 +243,7 @@ fn last_line(world: &World<PlainNode>, node: usize) -> Result<What, Fail> {
         return Err("no such node".into());
     }
     let line = world.history(node).last().ok_or("no line")?;
-    match &line.answer {
+    match line.lend(&NodeAnswer::OK).answer {
         NodeAnswer::Replied(Reply::Refused(refusal)) => Ok(What::Refused(*refusal)),
         _ => Err("not refused".into()),
     }

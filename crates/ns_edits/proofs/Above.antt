@@ -4,11 +4,11 @@ use Rattle.std.proofs.Common.{◌≡◌, ℕ, zero, suc, ◌<◌, ◌≤◌, Lis
 use Rattle.std.specs.Prelude.{is_some, ◌||◌}
 use Rattle.ns_tree.specs.declared.inode.Inode.{Inode}
 use Rattle.ns_tree.specs.declared.inode.Row.{Row}
-use Rattle.ns_path.specs.Path.{same_text, stem, path_of_stem, has_slash, before_last_slash, parent_of, is_path, is_root}
+use Rattle.ns_tree.specs.Path.{same_text, stem, path_of_stem, has_slash, before_last_slash, parent_of, is_path, is_root}
 use Rattle.ns_tree.specs.Space.{Space, is_dir, is_dir_there, find, Each, IsPair}
 use Rattle.ns_tree.specs.Places.{IsTree}
-use Rattle.ns_path.proofs.Order.{same_text_is}
-use Rattle.ns_path.proofs.Parents.{Below, below_root, stem_same, shorter}
+use Rattle.ns_tree.proofs.Order.{same_text_is}
+use Rattle.ns_tree.proofs.Parents.{Below, below_root, stem_same, shorter}
 use Rattle.ns_tree.proofs.Ancestors.{dir_some, found_parent}
 use Rattle.ns_edits.specs.declared.refusal.AdmitRefusal.{AdmitRefusal}
 use Rattle.ns_edits.specs.Admit.{Refusal, first, ancestor, ancestors}

@@ -10,9 +10,9 @@ use Rattle.edit_ops.specs.Fields.{IsGood}
 use Rattle.edit_ops.specs.Records.{EditView, fields_of, call_fields}
 use Rattle.ns_tree.specs.declared.inode.Inode.{Inode}
 use Rattle.ns_tree.specs.declared.inode.Row.{Row}
-use Rattle.ns_path.specs.Path.{stem, path_of_stem, has_slash, before_last_slash, parent_of, is_path, is_owner, is_root}
+use Rattle.ns_tree.specs.Path.{stem, path_of_stem, has_slash, before_last_slash, parent_of, is_path, is_owner, is_root}
 use Rattle.ns_tree.specs.Space.{Space, is_dir, is_dir_there, find, txid_of}
-use Rattle.ns_path.proofs.Parents.{Below, below_root}
+use Rattle.ns_tree.proofs.Parents.{Below, below_root}
 use Rattle.ns_edits.specs.declared.refusal.AdmitRefusal.{AdmitRefusal}
 use Rattle.ns_edits.specs.declared.refusal.AdmitRefusal.TheVariants.{NoParent, Exists, Missing, NotDirectory, NotFile, Root, BadName, BadNumber, RepeatedCall}
 use Rattle.ns_edits.specs.Admit.{Refusal, first, refused_if, bad_path, bad_owner, bad_permission, bad_replication, bad_block_size, ancestor}

@@ -7,12 +7,12 @@ use Rattle.std.proofs.lemmas.Bool.Decides.{nat_tests}
 use Rattle.ns_tree.specs.declared.inode.Inode.{Inode}
 use Rattle.ns_tree.specs.declared.inode.Inode.TheVariants.{Dir, File}
 use Rattle.ns_tree.specs.declared.inode.Row.{Row}
-use Rattle.ns_path.specs.Path.{same_text, stem, path_of_stem, is_under, is_at_or_under, has_slash, before_last_slash, parent_of, is_component, are_components, is_path, is_root}
+use Rattle.ns_tree.specs.Path.{same_text, stem, path_of_stem, is_under, is_at_or_under, has_slash, before_last_slash, parent_of, is_component, are_components, is_path, is_root}
 use Rattle.ns_tree.specs.Space.{Space, is_dir, is_dir_there, find, has_under, longest_under}
 use Rattle.ns_tree.specs.Places.{IsTree}
-use Rattle.ns_path.proofs.Order.{same_text_is, same_text_self}
-use Rattle.ns_path.proofs.Parents.{Below, below_root, stem_same}
-use Rattle.ns_path.proofs.Tails.{is_tail, Tail, tail_of, tail_under, parent_tail, tail_parent, path_split}
+use Rattle.ns_tree.proofs.Order.{same_text_is, same_text_self}
+use Rattle.ns_tree.proofs.Parents.{Below, below_root, stem_same}
+use Rattle.ns_tree.proofs.Tails.{is_tail, Tail, tail_of, tail_under, parent_tail, tail_parent, path_split}
 use Rattle.ns_tree.proofs.Ancestors.{no_dir_empty}
 use Rattle.ns_edits.specs.declared.refusal.AdmitRefusal.{AdmitRefusal}
 use Rattle.ns_edits.specs.declared.refusal.AdmitRefusal.TheVariants.{Exists, NotDirectory, NotFile, NotEmpty, Root, IntoItself, BadName}

@@ -1,7 +1,7 @@
 -- What comes after the last `/` of a path.
 use Rattle.std.proofs.Common.{◌≡◌, ℕ, zero, suc, ◌<◌, ◌+◌, List, [], ◌∷◌, length, drop, refl, arith, false, true, get_or, add-one}
-use Rattle.ns_path.specs.Path.{has_slash}
-use Rattle.ns_path.proofs.Scans.{slash_at}
+use Rattle.ns_tree.specs.Path.{has_slash}
+use Rattle.ns_tree.proofs.Scans.{slash_at}
 use Rattle.ns_edits.specs.Admit.{last_component}
 
 pub whole_component : (p : List ℕ) → has_slash p ≡ false → last_component p ≡ p

@@ -10,11 +10,11 @@ use Rattle.edit_ops.specs.Records.{fields_of}
 use Rattle.ns_tree.specs.declared.inode.Inode.{Inode}
 use Rattle.ns_tree.specs.declared.inode.Inode.TheVariants.{Dir, File}
 use Rattle.ns_tree.specs.declared.inode.Row.{Row}
-use Rattle.ns_path.specs.Path.{parent_of, is_path, is_root}
+use Rattle.ns_tree.specs.Path.{parent_of, is_path, is_root}
 use Rattle.ns_tree.specs.Space.{Space, is_dir, put, without, raise, renamed, change_at, IsInode}
 use Rattle.ns_tree.specs.Places.{IsTree}
 use Rattle.ns_tree.proofs.Walks.{order_change}
-use Rattle.ns_path.proofs.Parents.{Below, below_root}
+use Rattle.ns_tree.proofs.Parents.{Below, below_root}
 use Rattle.ns_tree.proofs.Pairs.{kept_change}
 use Rattle.ns_tree.proofs.Sound.{pairs_of, sound_pairs, sound_put, sound_without, sound_raise}
 use Rattle.ns_tree.proofs.RenameKeeps.{sound_renamed}

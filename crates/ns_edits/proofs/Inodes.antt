@@ -9,7 +9,7 @@ use Rattle.edit_ops.specs.Records.{fields_of}
 use Rattle.ns_tree.specs.declared.inode.Inode.{Inode}
 use Rattle.ns_tree.specs.declared.inode.Inode.TheVariants.{Dir, File}
 use Rattle.ns_tree.specs.declared.inode.Row.{Row}
-use Rattle.ns_path.specs.Path.{same_text, is_path, is_owner}
+use Rattle.ns_tree.specs.Path.{same_text, is_path, is_owner}
 use Rattle.ns_tree.specs.Space.{is_dir, find, Each, AreLengths, IsInode, IsPair}
 use Rattle.ns_edits.specs.declared.refusal.AdmitRefusal.TheVariants.{Exists, Missing, NotFile, BadName, BadNumber}
 use Rattle.ns_edits.specs.Admit.{refused_if, bad_path, bad_owner, bad_new_owner, bad_permission, bad_replication, bad_block_size, finds, has_parent}

@@ -8,11 +8,11 @@ use Rattle.std.proofs.lemmas.Bool.Decides.{nat_tests}
 use Rattle.ns_tree.specs.declared.inode.Inode.{Inode}
 use Rattle.ns_tree.specs.declared.inode.Inode.TheVariants.{Dir, File}
 use Rattle.ns_tree.specs.declared.inode.Row.{Row}
-use Rattle.ns_path.specs.Path.{same_text, begins_with, stem, path_of_stem, is_under, is_at_or_under, parent_of, is_path, is_root}
+use Rattle.ns_tree.specs.Path.{same_text, begins_with, stem, path_of_stem, is_under, is_at_or_under, parent_of, is_path, is_root}
 use Rattle.ns_tree.specs.Space.{is_dir, is_dir_there, find, without, raise, raised, change_at}
-use Rattle.ns_path.proofs.Order.{same_text_is, same_text_self}
+use Rattle.ns_tree.proofs.Order.{same_text_is, same_text_self}
 use Rattle.ns_tree.proofs.Finds.{changed, find_change, find_without}
-use Rattle.ns_path.proofs.Parents.{root_path, Below, below_root, stem_same}
+use Rattle.ns_tree.proofs.Parents.{root_path, Below, below_root, stem_same}
 use Rattle.ns_edits.specs.declared.refusal.AdmitRefusal.{AdmitRefusal}
 use Rattle.ns_edits.specs.declared.refusal.AdmitRefusal.TheVariants.{Missing, NotFile, IntoItself, BadName, BadNumber}
 use Rattle.ns_edits.specs.Admit.{Refusal, first, refused_if, bad_path, ancestor, ancestors, finds, refused_dir, refused_open, is_one_of, bad_paths}

@@ -8,7 +8,7 @@ use Rattle.std.proofs.Math.Seq.{take-suc}
 use Rattle.std.proofs.lemmas.List.{take-append-drop}
 use Rattle.std.proofs.lemmas.Bool.Decides.{nat_tests}
 use Rattle.ns_tree.specs.declared.inode.Row.{Row}
-use Rattle.ns_path.specs.Path.{same_text}
+use Rattle.ns_tree.specs.Path.{same_text}
 use Rattle.ns_tree.specs.Space.{find}
 use Rattle.ns_edits.specs.declared.refusal.AdmitRefusal.{AdmitRefusal}
 use Rattle.ns_edits.specs.declared.refusal.AdmitRefusal.TheVariants.{IntoItself, BadNumber}

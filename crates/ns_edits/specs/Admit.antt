@@ -10,7 +10,7 @@ use Rattle.ns_tree.specs.declared.inode.Inode.{Inode}
 use Rattle.ns_tree.specs.declared.inode.Inode.TheVariants.{Dir, File}
 use Rattle.ns_tree.specs.declared.inode.Noted.{Noted}
 use Rattle.ns_tree.specs.declared.inode.Row.{Row}
-use Rattle.ns_path.specs.Path.{same_text, stem, path_of_stem, is_path, is_owner, is_root, is_at_or_under, has_slash}
+use Rattle.ns_tree.specs.Path.{same_text, stem, path_of_stem, is_path, is_owner, is_root, is_at_or_under, has_slash}
 use Rattle.ns_tree.specs.Space.{Space, is_dir, find, has_under, longest_under, txid_of}
 use Rattle.ns_edits.specs.declared.refusal.AdmitRefusal.{AdmitRefusal}
 use Rattle.ns_edits.specs.declared.refusal.AdmitRefusal.TheVariants.{NoParent, Exists, Missing, NotDirectory, NotFile, NotEmpty, UnderConstruction, Root, IntoItself, BadName, BadNumber, RepeatedCall}

@@ -10,7 +10,7 @@ use Rattle.ns_tree.specs.declared.inode.Inode.{Inode}
 use Rattle.ns_tree.specs.declared.inode.Inode.TheVariants.{Dir, File}
 use Rattle.ns_tree.specs.declared.inode.Noted.{Noted}
 use Rattle.ns_tree.specs.declared.inode.Row.{Row}
-use Rattle.ns_path.specs.Path.{parent_of, is_path, is_root, is_at_or_under}
+use Rattle.ns_tree.specs.Path.{parent_of, is_path, is_root, is_at_or_under}
 use Rattle.ns_tree.specs.Space.{Space, is_dir, find, put, without, renamed, raise, change_at, noted}
 use Rattle.ns_edits.specs.Admit.{target_of, blocks_at}
 

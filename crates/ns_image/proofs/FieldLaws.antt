@@ -7,7 +7,7 @@ use Rattle.std.proofs.lemmas.Bool.{leb-true, le-leb, and_parts}
 use Rattle.std.proofs.lemmas.List.{take_at, drop_at, length-append, length-take}
 use Rattle.base_words.specs.Fields.{IsBytes}
 use Rattle.base_words.proofs.FieldLaws.{Begins, Begins-then, begins_cut, front_begins, IsField, field16}
-use Rattle.ns_path.specs.Path.{is_path, is_owner, is_letter, all_owner_bytes}
+use Rattle.ns_tree.specs.Path.{is_path, is_owner, is_letter, all_owner_bytes}
 use Rattle.ns_image.specs.declared.image_cause.ImageCause.{ImageCause}
 use Rattle.ns_image.specs.declared.image_cause.ImageCause.TheVariants.{Short, Field}
 use Rattle.ns_image.specs.declared.image_fault.ImageFault.{ImageFault}

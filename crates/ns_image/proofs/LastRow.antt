@@ -7,16 +7,16 @@ use Rattle.std.proofs.lemmas.Bool.{and_parts, or_right}
 use Rattle.std.proofs.lemmas.Bool.Decides.{nat_tests}
 use Rattle.ns_tree.specs.declared.inode.Inode.{Inode}
 use Rattle.ns_tree.specs.declared.inode.Row.{Row}
-use Rattle.ns_path.specs.Path.{same_text, begins_with, stem, path_of_stem, is_under, is_path, is_root, has_slash, before_last_slash, parent_of, walk_cmp}
+use Rattle.ns_tree.specs.Path.{same_text, begins_with, stem, path_of_stem, is_under, is_path, is_root, has_slash, before_last_slash, parent_of, walk_cmp}
 use Rattle.ns_tree.specs.Space.{find, is_dir, is_dir_there, has_under, Each, IsInWalkOrder, IsInode, IsPair}
 use Rattle.ns_tree.specs.Places.{IsTree}
 use Rattle.ns_tree.specs.Last.{last_path, has_parent}
-use Rattle.ns_path.proofs.Order.{same_text_is, same_text_self}
+use Rattle.ns_tree.proofs.Order.{same_text_is, same_text_self}
 use Rattle.ns_tree.proofs.Finds.{or_in, find_append}
 use Rattle.ns_tree.proofs.Walks.{each_imp}
 use Rattle.ns_tree.proofs.Place.{find_gap}
-use Rattle.ns_path.proofs.Parents.{Below, below_root, slash_after, stem_same}
-use Rattle.ns_path.proofs.Under.{under_between}
+use Rattle.ns_tree.proofs.Parents.{Below, below_root, slash_after, stem_same}
+use Rattle.ns_tree.proofs.UnderPaths.{under_between}
 use Rattle.ns_tree.proofs.Ancestors.{no_dir_empty}
 use Rattle.ns_tree.proofs.Last.{some_rows, gap_at_end}
 use Rattle.ns_image.specs.Rows.{MayStand, EndsAt, is_above_last}

@@ -6,10 +6,10 @@ use Rattle.edit_ops.proofs.SourceLaws.{ok_is}
 use Rattle.ns_tree.specs.declared.inode.Inode.{Inode}
 use Rattle.ns_tree.specs.declared.inode.Inode.TheVariants.{Dir, File}
 use Rattle.ns_tree.specs.declared.inode.Row.{Row}
-use Rattle.ns_path.specs.Path.{is_path, is_root}
+use Rattle.ns_tree.specs.Path.{is_path, is_root}
 use Rattle.ns_tree.specs.Space.{pair, is_dir, IsInode}
 use Rattle.ns_tree.specs.Last.{is_after_last, has_parent}
-use Rattle.ns_path.proofs.Order.{same_text_is}
+use Rattle.ns_tree.proofs.Order.{same_text_is}
 use Rattle.ns_image.specs.declared.image_cause.ImageCause.TheVariants.{Order, NoParent}
 use Rattle.ns_image.specs.Layouts.{text_bytes, inode_bytes, row_bytes}
 use Rattle.ns_image.specs.Reading.{root_at, next_path_at, row_at}

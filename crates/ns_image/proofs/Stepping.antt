@@ -7,7 +7,7 @@ use Rattle.edit_ops.proofs.SourceLaws.{ok_is}
 use Rattle.ns_tree.specs.declared.inode.Inode.{Inode}
 use Rattle.ns_tree.specs.declared.inode.Noted.{Noted}
 use Rattle.ns_tree.specs.declared.inode.Row.{Row}
-use Rattle.ns_path.specs.Path.{is_path, walk_cmp, parent_of}
+use Rattle.ns_tree.specs.Path.{is_path, walk_cmp, parent_of}
 use Rattle.ns_tree.specs.Space.{pair, find, is_dir, is_dir_there, IsInode}
 use Rattle.ns_tree.specs.Last.{last_path, is_after_last, has_parent}
 use Rattle.ns_tree.proofs.Walks.{is_less}

@@ -10,17 +10,17 @@ use Rattle.std.proofs.lemmas.List.{append-nil}
 use Rattle.std.proofs.lemmas.Bool.{and_parts}
 use Rattle.ns_tree.specs.declared.inode.Inode.{Inode}
 use Rattle.ns_tree.specs.declared.inode.Row.{Row}
-use Rattle.ns_path.specs.Path.{is_path, is_root, walk_cmp, parent_of, same_text, path_of_stem, before_last_slash, rank_of}
+use Rattle.ns_tree.specs.Path.{is_path, is_root, walk_cmp, parent_of, same_text, path_of_stem, before_last_slash, rank_of}
 use Rattle.ns_tree.specs.Space.{Space, pair, find, is_dir, is_dir_there, Each, IsInWalkOrder, IsInode, IsPair}
 use Rattle.ns_tree.specs.Places.{IsTree}
 use Rattle.ns_tree.specs.Last.{last_path, is_after_last, has_parent}
-use Rattle.ns_path.proofs.Order.{walk_cmp_self, same_text_is, turned_less}
+use Rattle.ns_tree.proofs.Order.{walk_cmp_self, same_text_is, turned_less}
 use Rattle.ns_tree.proofs.Finds.{or_in, find_append}
 use Rattle.ns_tree.proofs.Walks.{each_imp}
 use Rattle.ns_tree.proofs.Place.{each_right, order_right}
 use Rattle.ns_tree.proofs.Last.{sound_append}
-use Rattle.ns_path.proofs.Parents.{Below, below_root, slash_after}
-use Rattle.ns_path.proofs.Tails.{begins_split}
+use Rattle.ns_tree.proofs.Parents.{Below, below_root, slash_after}
+use Rattle.ns_tree.proofs.Tails.{begins_split}
 use Rattle.ns_image.specs.Rows.{MayStand}
 use Rattle.ns_image.proofs.RowLaws.{root_row, MayGoOn}
 

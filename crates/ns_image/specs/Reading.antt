@@ -7,7 +7,7 @@ use Rattle.ns_tree.specs.declared.inode.Inode.{Inode}
 use Rattle.ns_tree.specs.declared.inode.Inode.TheVariants.{Dir, File}
 use Rattle.ns_tree.specs.declared.inode.Noted.{Noted}
 use Rattle.ns_tree.specs.declared.inode.Row.{Row}
-use Rattle.ns_path.specs.Path.{is_path, is_root, is_owner}
+use Rattle.ns_tree.specs.Path.{is_path, is_root, is_owner}
 use Rattle.ns_tree.specs.Space.{Space, pair, txid_of, most_calls}
 use Rattle.ns_tree.specs.Last.{is_after_last, has_parent}
 use Rattle.ns_image.specs.declared.image_cause.ImageCause.{ImageCause}

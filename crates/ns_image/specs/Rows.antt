@@ -2,7 +2,7 @@
 use Rattle.std.specs.Prelude.{◌≡◌, ℕ, ◌+◌, ◌<◌, ◌≤◌, Bool, true, List, [], length, Result, Ok, Err, if◌then◌else◌}
 use Rattle.std.specs.Ordering.{is_lt}
 use Rattle.ns_tree.specs.declared.inode.Row.{Row}
-use Rattle.ns_path.specs.Path.{same_text, is_under, is_path, walk_cmp, parent_of}
+use Rattle.ns_tree.specs.Path.{same_text, is_under, is_path, walk_cmp, parent_of}
 use Rattle.ns_tree.specs.Space.{pair, find, is_dir_there, IsInode}
 use Rattle.ns_tree.specs.Places.{IsTree}
 use Rattle.ns_tree.specs.Last.{last_path, is_after_last, has_parent}

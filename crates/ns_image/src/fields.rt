@@ -1,7 +1,7 @@
 //! The fields of an image, from bytes.
 ghost use Rattle.std.specs.Prelude.{◌≡◌, ◌∷◌, [], ◌^◌, ◌+◌, ◌≤◌, true, false, length, IfOk};
 ghost use Rattle.std.specs.Int.{w16, w32, w64};
-ghost use Rattle.ns_path.specs.Path.{is_path, is_owner};
+ghost use Rattle.ns_tree.specs.Path.{is_path, is_owner};
 ghost use Rattle.ns_tree.specs.Space.{AreLengths};
 ghost use Rattle.ns_image.specs.declared.image_cause.ImageCause.TheVariants as causes;
 ghost use Rattle.ns_image.specs.Reading.{Gives, wants_memory, byte_at, whole_at, number_at, text_at, path_at, owner_at, amount_at, size_at, permission_at, repeated, length_at, blocks_at, client_at};
@@ -10,7 +10,7 @@ use crate::image_cause::ImageCause;
 use crate::image_fault::{ReadError, wrong_at};
 use base_words::{MAX, Name, OutOfMemory};
 use edit_ops::NumberList;
-use ns_path::{is_good_owner, is_good_path};
+use ns_tree::{is_good_owner, is_good_path};
 use std::alloc::Global;
 
 /// The most bytes of a path.

@@ -1,7 +1,7 @@
 //! Rows from bytes, one after the other, each by the one before it.
 ghost use Rattle.std.specs.Prelude.{◌≡◌, ◌+◌, ◌∷◌, [], ◌≤◌, true, false, List, length, IfOk};
 ghost use Rattle.ns_tree.specs.declared.inode.Row.{Row};
-ghost use Rattle.ns_path.specs.Path.{is_path};
+ghost use Rattle.ns_tree.specs.Path.{is_path};
 ghost use Rattle.ns_tree.specs.Space.{IsInode, is_dir};
 ghost use Rattle.ns_image.specs.Reading.{Gives, wants_memory, root_at, row_at, repeated, tree_at};
 ghost use Rattle.ns_image.specs.Rows.{EndsAt, HasTaken, IsNext, GivesSome, is_above_last, path_after, row_after};
@@ -12,8 +12,7 @@ use crate::image_fault::{ReadError, wrong_at};
 use crate::inodes::{dir_of, inode_of};
 use crate::sink::RowSink;
 use base_words::Name;
-use ns_path::{is_root_path, lies_under, parent, walk_order};
-use ns_tree::{Inode, Namespace, Row};
+use ns_tree::{Inode, Namespace, Row, is_root_path, lies_under, parent, walk_order};
 use std::alloc::Global;
 
 /// An image counts its inodes in 32 bits.

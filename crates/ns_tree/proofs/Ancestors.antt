@@ -6,15 +6,15 @@ use Rattle.std.proofs.lemmas.Bool.Decides.{nat_tests}
 use Rattle.std.proofs.lemmas.Bool.{or_right}
 use Rattle.ns_tree.specs.declared.inode.Inode.{Inode}
 use Rattle.ns_tree.specs.declared.inode.Row.{Row}
-use Rattle.ns_path.specs.Path.{same_text, walk_cmp, is_under, before_last_slash, parent_of}
+use Rattle.ns_tree.specs.Path.{same_text, walk_cmp, is_under, before_last_slash, parent_of}
 use Rattle.ns_tree.specs.Space.{Space, is_dir_there, find, has_under, Each, IsPair}
 use Rattle.ns_tree.specs.Places.{IsTree}
-use Rattle.ns_path.proofs.Order.{same_text_is, walk_cmp_self}
+use Rattle.ns_tree.proofs.Order.{same_text_is, walk_cmp_self}
 use Rattle.ns_tree.proofs.Walks.{each_imp}
-use Rattle.ns_path.proofs.Parents.{Below, shorter}
-use Rattle.ns_path.proofs.Under.{under_after, not_true}
+use Rattle.ns_tree.proofs.Parents.{Below, shorter}
+use Rattle.ns_tree.proofs.UnderPaths.{under_after, not_true}
 use Rattle.ns_tree.proofs.Subtree.{has_under_none}
-use Rattle.ns_path.proofs.Tails.{is_tail, Tail, tail_of, parent_tail, tail_parent}
+use Rattle.ns_tree.proofs.Tails.{is_tail, Tail, tail_of, parent_tail, tail_parent}
 
 pub dir_some : (o : Option Inode) → is_dir_there o ≡ true → is_some o ≡ true
 dir_some None e = absurd (cc e)

@@ -2,7 +2,7 @@
 use Rattle.std.proofs.Common.{◌≡◌, ℕ, ◌<◌, ◌+◌, List, [], ◌∷◌, ◌++◌, length, take, drop, filter, map, refl, sym, ◌∙◌, ap, subst, arith, cond, Bool, true, false, get_or, append-nil}
 use Rattle.std.proofs.lemmas.Grind.{common_steps}
 use Rattle.std.proofs.lemmas.List.{take-append-drop}
-use Rattle.ns_path.specs.Path.{is_under, is_right_under, part_under, has_slash}
+use Rattle.ns_tree.specs.Path.{is_under, is_right_under, part_under, has_slash}
 use Rattle.ns_tree.specs.declared.inode.Row.{Row}
 use Rattle.ns_tree.specs.Space.{Each, IsInWalkOrder, names_under}
 use Rattle.ns_tree.specs.Places.{IsAt, IsSubtreeEnd}

@@ -6,11 +6,11 @@ use Rattle.std.specs.Ordering.{is_lt}
 use Rattle.std.specs.List.{insert}
 use Rattle.std.proofs.lemmas.List.{take_all, drop_all}
 use Rattle.ns_tree.specs.declared.inode.Row.{Row}
-use Rattle.ns_path.specs.Path.{walk_cmp, is_path}
+use Rattle.ns_tree.specs.Path.{walk_cmp, is_path}
 use Rattle.ns_tree.specs.Space.{Space, find, is_dir_there, Each, IsInWalkOrder, IsInode, IsPair}
 use Rattle.ns_tree.specs.Places.{IsGapFor, IsTree}
 use Rattle.ns_tree.specs.Last.{last_path, is_after_last, has_parent}
-use Rattle.ns_path.proofs.Order.{walk_cmp_total}
+use Rattle.ns_tree.proofs.Order.{walk_cmp_total}
 use Rattle.ns_tree.proofs.Walks.{is_less}
 use Rattle.ns_tree.proofs.Place.{each_at, put_gap, find_gap}
 use Rattle.ns_tree.proofs.Sound.{sound_put}

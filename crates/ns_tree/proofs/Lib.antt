@@ -1,3 +1,10 @@
+pub mod Order
+pub mod Components
+pub mod Scans
+pub mod Tails
+pub mod UnderPaths
+pub mod Parents
+pub mod TwoNames
 pub mod Walks
 pub mod Finds
 pub mod Pairs

@@ -7,10 +7,10 @@ use Rattle.std.proofs.lemmas.Grind.{get_or-set_at}
 use Rattle.std.proofs.lemmas.Bool.Decides.{nat_tests}
 use Rattle.edit_ops.specs.declared.call.Call.{Call}
 use Rattle.ns_tree.specs.declared.inode.Noted.{Noted}
-use Rattle.ns_path.specs.Path.{same_text}
+use Rattle.ns_tree.specs.Path.{same_text}
 use Rattle.ns_tree.specs.Space.{same_call, txid_of, last_calls, noted, AreRising}
 use Rattle.ns_tree.specs.Marks.{mark_of, AreMarked}
-use Rattle.ns_path.proofs.Order.{same_text_is}
+use Rattle.ns_tree.proofs.Order.{same_text_is}
 
 -- one call has one mark
 pub same_mark : (a b : Call) → same_call a b ≡ true → mark_of a ≡ mark_of b

@@ -7,9 +7,9 @@ use Rattle.std.specs.Cmp.Lexicographic.{slice_cmp}
 use Rattle.std.proofs.lemmas.List.Elements.{All-cons}
 use Rattle.std.proofs.lemmas.List.Kept.{AllPairs-cons}
 use Rattle.ns_tree.specs.declared.inode.Row.{Row}
-use Rattle.ns_path.specs.Path.{walk_cmp, part_under, is_right_under}
+use Rattle.ns_tree.specs.Path.{walk_cmp, part_under, is_right_under}
 use Rattle.ns_tree.specs.Space.{Each, IsInWalkOrder, names_under, AreInByteOrder}
-use Rattle.ns_path.proofs.TwoNames.{name_less}
+use Rattle.ns_tree.proofs.TwoNames.{name_less}
 
 abbrev IsBefore : List ℕ → List ℕ → Type 0
 IsBefore a b = slice_cmp nat_cmp a b ≡ Less

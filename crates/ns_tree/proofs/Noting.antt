@@ -6,10 +6,10 @@ use Rattle.std.proofs.lemmas.Bool.Decides.{nat_tests}
 use Rattle.std.specs.Prelude.{◌^◌}
 use Rattle.edit_ops.specs.declared.call.Call.{Call}
 use Rattle.ns_tree.specs.declared.inode.Noted.{Noted}
-use Rattle.ns_path.specs.Path.{same_text}
+use Rattle.ns_tree.specs.Path.{same_text}
 use Rattle.ns_tree.specs.Space.{Space, same_call, txid_of, last_calls, noted, AreRising, AreOtherCalls, AreDistinct}
 use Rattle.ns_tree.specs.Places.{IsTree}
-use Rattle.ns_path.proofs.Order.{same_text_is, same_text_self}
+use Rattle.ns_tree.proofs.Order.{same_text_is, same_text_self}
 
 pub call_itself : (c : Call) → same_call c c ≡ true
 call_itself c = let here : (c.number == c.number) ≡ true = grind (arith, nat_tests) in rw here (same_text_self c.client)

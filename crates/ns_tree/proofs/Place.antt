@@ -12,13 +12,13 @@ use Rattle.std.specs.declared.cmp.Ordering.{Ordering}
 use Rattle.std.specs.declared.cmp.Ordering.TheVariants.{Less, Equal, Greater}
 use Rattle.std.proofs.lemmas.Grind.{common_steps}
 use Rattle.ns_tree.specs.declared.inode.Inode.{Inode}
-use Rattle.ns_path.specs.Path.{walk_cmp, same_text}
+use Rattle.ns_tree.specs.Path.{walk_cmp, same_text}
 use Rattle.ns_tree.specs.declared.inode.Row.{Row}
 use Rattle.ns_tree.specs.Space.{pair, Each, IsInWalkOrder, find, put, pairs_before, pairs_after, change_at}
 use Rattle.ns_tree.specs.Places.{IsAt, IsGapFor}
 use Rattle.ns_tree.proofs.Walks.{each_append}
 use Rattle.ns_tree.proofs.Boxes.{length-boxes, at_map, get-map}
-use Rattle.ns_path.proofs.Order.{walk_cmp_total, walk_cmp_exact, same_text_self, not_same_before, not_same_after, turned, turned_less}
+use Rattle.ns_tree.proofs.Order.{walk_cmp_total, walk_cmp_exact, same_text_self, not_same_before, not_same_after, turned, turned_less}
 
 -- ---- `Each`, by its indices
 

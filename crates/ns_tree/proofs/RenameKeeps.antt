@@ -7,17 +7,17 @@ use Rattle.std.specs.Ordering.{is_lt}
 use Rattle.std.specs.declared.cmp.Ordering.TheVariants.{Less}
 use Rattle.ns_tree.specs.declared.inode.Inode.{Inode}
 use Rattle.ns_tree.specs.declared.inode.Row.{Row}
-use Rattle.ns_path.specs.Path.{same_text, walk_cmp, is_under, is_at_or_under, before_last_slash, parent_of, is_path, moved_path}
+use Rattle.ns_tree.specs.Path.{same_text, walk_cmp, is_under, is_at_or_under, before_last_slash, parent_of, is_path, moved_path}
 use Rattle.ns_tree.specs.Space.{Space, pair, root_pair, is_dir_there, find, has_under, subtree, longest_of, longest_under, pairs_before, pairs_after}
 use Rattle.ns_tree.specs.Space.{without, moved, renamed, Each, IsInWalkOrder, IsPair}
 use Rattle.ns_tree.specs.Places.{IsTree}
-use Rattle.ns_path.proofs.Order.{walk_cmp_total, same_text_is, not_same_before, not_same_after, other_text}
+use Rattle.ns_tree.proofs.Order.{walk_cmp_total, same_text_is, not_same_before, not_same_after, other_text}
 use Rattle.ns_tree.proofs.Walks.{each_filter, each_passing, each_append, each_imp, order_filter, order_append, before_less, after_less}
 use Rattle.ns_tree.proofs.Finds.{or_in, find_append, find_put_other, find_without, put_parts}
-use Rattle.ns_path.proofs.Parents.{root_path, Below, root_apart, path_long}
-use Rattle.ns_path.proofs.Under.{after_under, before_under, not_true}
+use Rattle.ns_tree.proofs.Parents.{root_path, Below, root_apart, path_long}
+use Rattle.ns_tree.proofs.UnderPaths.{after_under, before_under, not_true}
 use Rattle.ns_tree.proofs.Sound.{sound_pairs}
-use Rattle.ns_path.proofs.Tails.{is_tail, Tail, tail_of, tail_under, moved_tail, moved_by, moved_cmp, moved_under, same_prefix, parent_tail, tail_parent, parent_apart, own_parent_apart, path_tail}
+use Rattle.ns_tree.proofs.Tails.{is_tail, Tail, tail_of, tail_under, moved_tail, moved_by, moved_cmp, moved_under, same_prefix, parent_tail, tail_parent, parent_apart, own_parent_apart, path_tail}
 use Rattle.std.proofs.lemmas.Bool.{or_parts}
 
 each_both : (P Q : Row → Type 0) (xs : List Row) → Each P xs → Each Q xs → Each (λ x. P x × Q x) xs

@@ -2,12 +2,12 @@
 use Rattle.std.proofs.Common.{◌≡◌, ℕ, suc, ◌<◌, ◌≤◌, ◌+◌, ◌-◌, List, ◌∷◌, length, take, drop, refl, sym, ◌∙◌, ap, arith, cond, Bool, true, false, get_or, nat_lt, add-one, drop-cons}
 use Rattle.std.proofs.lemmas.Bool.Decides.{nat_tests}
 use Rattle.ns_tree.specs.declared.inode.Row.{Row}
-use Rattle.ns_path.specs.Path.{is_at_or_under}
+use Rattle.ns_tree.specs.Path.{is_at_or_under}
 use Rattle.ns_tree.specs.Space.{IsInWalkOrder, subtree, longest_of}
 use Rattle.ns_tree.specs.Places.{IsAt, IsSubtreeEnd}
-use Rattle.ns_path.proofs.Order.{same_text_self, not_same_before, not_same_after}
+use Rattle.ns_tree.proofs.Order.{same_text_self, not_same_before, not_same_after}
 use Rattle.ns_tree.proofs.Subtree.{filter_run, later_at, earlier_at, past_end}
-use Rattle.ns_path.proofs.Under.{not_under_before}
+use Rattle.ns_tree.proofs.UnderPaths.{not_under_before}
 
 module _ (xs : List Row) (p : List ℕ) (i n : ℕ) (long : 0 < length p) (ordered : IsInWalkOrder xs) (at : IsAt xs p i) (part : IsSubtreeEnd xs p i (i + n)) where
   -- the run that moves

@@ -4,14 +4,14 @@ use Rattle.std.specs.Prelude.{nat_lt, ◌^◌}
 use Rattle.ns_tree.specs.declared.inode.Inode.{Inode}
 use Rattle.ns_tree.specs.declared.inode.Inode.TheVariants.{Dir, File}
 use Rattle.ns_tree.specs.declared.inode.Row.{Row}
-use Rattle.ns_path.specs.Path.{same_text, is_path, is_root, parent_of}
+use Rattle.ns_tree.specs.Path.{same_text, is_path, is_root, parent_of}
 use Rattle.ns_tree.specs.Space.{Space, pair, is_dir, is_dir_there, find, put, without, raise, raised, Each, IsInWalkOrder, IsInode, IsPair}
 use Rattle.ns_tree.specs.Places.{IsAt, set_at, IsTree}
-use Rattle.ns_path.proofs.Order.{same_text_is}
+use Rattle.ns_tree.proofs.Order.{same_text_is}
 use Rattle.ns_tree.proofs.Walks.{order_put, order_without, order_change}
 use Rattle.ns_tree.proofs.Finds.{changed, find_change}
 use Rattle.ns_tree.proofs.Pairs.{AreKept, kept_change, kept_put, kept_without}
-use Rattle.ns_path.proofs.Parents.{root_path, path_long}
+use Rattle.ns_tree.proofs.Parents.{root_path, path_long}
 use Rattle.ns_tree.proofs.Place.{each_at}
 
 pub pairs_of : (s : Space) → IsTree s → AreKept s.pairs

@@ -3,14 +3,14 @@ use Rattle.std.proofs.Common.{◌≡◌, ℕ, zero, suc, ◌<◌, ◌≤◌, ◌
 use Rattle.std.specs.declared.cmp.Ordering.TheVariants.{Less}
 use Rattle.std.proofs.lemmas.Bool.Decides.{nat_tests}
 use Rattle.std.proofs.lemmas.List.{take-append-drop, get_or_default}
-use Rattle.ns_path.specs.Path.{walk_cmp, is_under, is_at_or_under}
+use Rattle.ns_tree.specs.Path.{walk_cmp, is_under, is_at_or_under}
 use Rattle.ns_tree.specs.declared.inode.Row.{Row}
 use Rattle.ns_tree.specs.Space.{Each, IsInWalkOrder, has_under, without}
 use Rattle.ns_tree.specs.Places.{IsAt, IsSubtreeEnd}
 use Rattle.ns_tree.proofs.Walks.{order_filter}
-use Rattle.ns_path.proofs.Order.{same_text_self, not_same_before, not_same_after}
+use Rattle.ns_tree.proofs.Order.{same_text_self, not_same_before, not_same_after}
 use Rattle.ns_tree.proofs.Place.{each_take, each_drop, order_at}
-use Rattle.ns_path.proofs.Under.{under_between, not_true, not_under_before, not_under_self}
+use Rattle.ns_tree.proofs.UnderPaths.{under_between, not_true, not_under_before, not_under_self}
 
 -- ---- what a filter leaves of a list of which a run goes
 

@@ -5,10 +5,10 @@ use Rattle.std.proofs.Math.Seq.{take-suc, take-length, drop-append_seam}
 use Rattle.std.proofs.lemmas.List.{take-append-le, drop-append-le, take-append-drop, drop-drop, get_or-drop, length-take-le}
 use Rattle.std.proofs.lemmas.List.Elements.{filter-append}
 use Rattle.ns_tree.specs.declared.inode.Row.{Row}
-use Rattle.ns_path.specs.Path.{walk_cmp}
+use Rattle.ns_tree.specs.Path.{walk_cmp}
 use Rattle.ns_tree.specs.Space.{pair, pairs_before, pairs_after, put_at}
 use Rattle.ns_tree.specs.Places.{IsAt, IsGapFor, named, given}
-use Rattle.ns_path.proofs.Order.{walk_cmp_self}
+use Rattle.ns_tree.proofs.Order.{walk_cmp_self}
 use Rattle.ns_tree.proofs.Place.{before_kept, before_none, after_kept, after_none, split_at}
 use Rattle.ns_tree.proofs.Boxes.{map-take, map-drop, map-parts}
 

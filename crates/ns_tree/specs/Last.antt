@@ -2,7 +2,7 @@
 use Rattle.std.specs.Prelude.{ℕ, Bool, List, [], ◌∷◌}
 use Rattle.std.specs.Ordering.{is_lt}
 use Rattle.ns_tree.specs.declared.inode.Row.{Row}
-use Rattle.ns_path.specs.Path.{walk_cmp, parent_of}
+use Rattle.ns_tree.specs.Path.{walk_cmp, parent_of}
 use Rattle.ns_tree.specs.Space.{find, is_dir_there}
 
 -- the path of the last row

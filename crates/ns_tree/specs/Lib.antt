@@ -1,3 +1,5 @@
+pub mod Path
+pub mod Components
 pub mod Space
 pub mod Places
 pub mod Last

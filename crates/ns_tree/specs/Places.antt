@@ -4,7 +4,7 @@ use Rattle.std.specs.Prelude.{◌≡◌, ℕ, zero, suc, ◌+◌, ◌-◌, ◌^�
 use Rattle.std.specs.declared.cmp.Ordering.TheVariants.{Less}
 use Rattle.ns_tree.specs.declared.inode.Inode.{Inode}
 use Rattle.ns_tree.specs.declared.inode.Row.{Row}
-use Rattle.ns_path.specs.Path.{walk_cmp, is_under}
+use Rattle.ns_tree.specs.Path.{walk_cmp, is_under}
 use Rattle.ns_tree.specs.Space.{Space, Each, IsSpace, change_at, pair}
 
 -- the pair of p stands at i: a walk meets those before it first, and those after it later

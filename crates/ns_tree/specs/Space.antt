@@ -9,7 +9,7 @@ use Rattle.ns_tree.specs.declared.inode.Inode.{Inode}
 use Rattle.ns_tree.specs.declared.inode.Inode.TheVariants.{Dir, File}
 use Rattle.ns_tree.specs.declared.inode.Noted.{Noted}
 use Rattle.ns_tree.specs.declared.inode.Row.{Row}
-use Rattle.ns_path.specs.Path.{same_text, is_under, is_at_or_under, walk_cmp, is_right_under, part_under, parent_of, is_path, is_owner, moved_path}
+use Rattle.ns_tree.specs.Path.{same_text, is_under, is_at_or_under, walk_cmp, is_right_under, part_under, parent_of, is_path, is_owner, moved_path}
 
 abbrev pub pair : List ℕ → Inode → Row
 pair path inode = record { path = path; inode = inode }

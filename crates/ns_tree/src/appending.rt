@@ -1,13 +1,13 @@
 //! The rows one by one in the order of a walk, and one more at its end.
 ghost use Rattle.std.specs.Prelude.{◌≡◌, ◌++◌, ◌∷◌, [], ◌<◌, ◌≤◌, true, length, slice_index_or, OnOk, OnErr};
-ghost use Rattle.ns_path.specs.Path.{is_path};
+ghost use Rattle.ns_tree.specs.Path.{is_path};
 ghost use Rattle.ns_tree.specs.Space.{IsInode};
 ghost use Rattle.ns_tree.specs.Last.{is_after_last, has_parent};
 
 use crate::inode::Row;
 use crate::namespace::Namespace;
+use crate::path::{parent, walk_order};
 use base_words::OutOfMemory;
-use ns_path::{parent, walk_order};
 use std::alloc::Global;
 
 impl Namespace {

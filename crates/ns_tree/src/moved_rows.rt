@@ -5,9 +5,9 @@ ghost use Rattle.ns_tree.specs.Space.{pair, put_at, IsInWalkOrder};
 ghost use Rattle.ns_tree.specs.Places.{given, named};
 
 use crate::inode::Row;
+use crate::path::path_moved;
 use crate::table::RowTable;
 use base_words::{Name, OutOfMemory};
-use ns_path::path_moved;
 use std::alloc::Global;
 use std::boxed::Box;
 

@@ -1,6 +1,6 @@
 //! A path that moves, with all under it.
 ghost use Rattle.std.specs.Prelude.{◌≡◌, ◌+◌, ◌-◌, ◌≤◌, true, false, length, IsSome, OnOk, OnErr};
-ghost use Rattle.ns_path.specs.Path.{is_path, is_root, is_at_or_under, parent_of};
+ghost use Rattle.ns_tree.specs.Path.{is_path, is_root, is_at_or_under, parent_of};
 ghost use Rattle.ns_tree.specs.Space.{find, is_dir_there, has_under, longest_under, renamed};
 
 use crate::namespace::Namespace;

@@ -1,6 +1,6 @@
 //! The list of the last 1,024 calls, and the marks by which most calls are seen not to stand in it.
 ghost use Rattle.std.specs.Prelude.{◌≡◌, ◌-◌, ◌≤◌, ◌<◌, ◌^◌, None, false, length, drop, vec_capacity, [], ◌++◌, ◌∷◌, IfOk};
-ghost use Rattle.ns_path.specs.Path.{same_text};
+ghost use Rattle.ns_tree.specs.Path.{same_text};
 ghost use Rattle.ns_tree.specs.Space.{same_call, txid_of, noted, last_calls, AreRising};
 ghost use Rattle.ns_tree.specs.Marks.{mark_of};
 

@@ -4,14 +4,14 @@ ghost use Rattle.std.specs.List.{insert};
 ghost use Rattle.std.specs.Fn.{FnOnceReturnsAtMut};
 ghost use Rattle.std.specs.declared.cmp.Ordering.TheVariants.{Less};
 ghost use Rattle.ns_tree.specs.declared.inode.Row.{Row};
-ghost use Rattle.ns_path.specs.Path.{walk_cmp};
+ghost use Rattle.ns_tree.specs.Path.{walk_cmp};
 ghost use Rattle.ns_tree.specs.Space.{root_pair, pair, IsInWalkOrder, raised, longest_of};
 ghost use Rattle.ns_tree.specs.Places.{IsAt, IsGapFor, IsSubtreeEnd};
 
 use crate::hints::Hints;
 use crate::inode::{Inode, Row};
+use crate::path::{lies_under, walk_order};
 use base_words::OutOfMemory;
-use ns_path::{lies_under, walk_order};
 use std::alloc::{AllocError, Global};
 use std::boxed::Box;
 use std::cmp::Ordering;

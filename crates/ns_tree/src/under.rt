@@ -1,13 +1,13 @@
 //! What lies under a path: its names, its removal, its longest path, and the rows of all.
 ghost use Rattle.std.specs.Prelude.{◌≡◌, ◌≤◌, true, false, length, IsSome, IfOk, take};
-ghost use Rattle.ns_path.specs.Path.{is_root};
+ghost use Rattle.ns_tree.specs.Path.{is_root};
 ghost use Rattle.ns_tree.specs.Space.{find, has_under, without, longest_under, names_under, children_of, AreInByteOrder};
 ghost use Rattle.ns_tree.specs.Places.{IsAt};
 
 use crate::inode::{Inode, Row};
 use crate::namespace::Namespace;
+use crate::path::{contains_slash, lies_under, part_from, stem_of};
 use base_words::{Name, OutOfMemory};
-use ns_path::{contains_slash, lies_under, part_from, stem_of};
 use std::alloc::Global;
 
 impl Namespace {

@@ -22,9 +22,10 @@ use Rattle.play_model.specs.Laws.{LedIsMade}
 use Rattle.play_model.specs.Scripts.{ScriptsArePlayable}
 use Rattle.play_threads.specs.Threads.{is_by, TakesOwn, HasDone}
 use Rattle.play_threads.proofs.ActorLaws.{done_first, done_next, done_follows, new_named}
-use Rattle.pipe_seats.specs.Piped.{PipesView, AreLater, new_seats}
+use Rattle.pipe_seats.specs.Piped.{PipesView, AreLater, AreResting, new_seats}
 use Rattle.pipe_seats.specs.LaterLaws.{later_same, later_on}
 use Rattle.pipe_seats.proofs.PipeLaws.{text_snoc}
+use Rattle.pipe_seats.proofs.SeatLaws.{fresh_rest}
 use Rattle.pipe_lead.specs.declared.answer.Answer.{Answer}
 use Rattle.pipe_lead.specs.declared.answer.Answer.TheVariants as answer
 use Rattle.pipe_lead.specs.declared.lead_end.LeadEnd.{LeadEnd}
@@ -124,6 +125,7 @@ pub record LedSoFar (n : ℕ) (actor : ActorView) (first now : PipesView) (given
   pub written : IsWritten whole before after text
   pub named : has_names actor ≡ true
   pub later : AreLater first now
+  pub resting : AreResting first.seats → AreResting now.seats
 
 pub led_first : (n : ℕ) (v : ActorView) (s : PipesView) (given before : Option (List ℕ)) → 1 ≤ n → v ≡ new_actor_view true n → s.log ≡ new_log n true
     → LedSoFar n v s s given given before before true 0
@@ -141,6 +143,7 @@ led_first n v s given before some e f = record {
   written = Appends-nil before;
   named = ap has_names e ∙ new_named true n;
   later = later_same s;
+  resting = λ r. r;
 }
 
 -- one line was answered, of the input or put in
@@ -166,6 +169,7 @@ led_more n whole line v w first s t given mid left a b c count sum input nodes h
       written = written_more whole a b c h.text (answer_text k.of more) h.written k.written;
       named = k.named;
       later = later_on first s t h.later k.later;
+      resting = λ r. k.resting;
     }
 
 pub led_next : (n : ℕ) (whole : Bool) (line : List ℕ) (v w : ActorView) (first s t : PipesView) (given mid left a b c : Option (List ℕ)) (count : ℕ) → s.log.nodes ≡ n
@@ -292,6 +296,27 @@ later_with lead_end.ReadFault line v w first s t b c h k = absurd k
 later_with lead_end.WriteFault line v w first s t b c h k = later_on first s t h k.later
 later_with lead_end.OutOfMemory line v w first s t b c h k = tt
 
+-- nothing is under way at its end
+pub at_rest : (end : LeadEnd) (P : Type 0) → P → IfLasts end P
+at_rest lead_end.Done P h = h
+at_rest lead_end.LongLine P h = h
+at_rest lead_end.ReadFault P h = h
+at_rest lead_end.WriteFault P h = h
+at_rest lead_end.OutOfMemory P h = tt
+
+rest_with : (of : LeadEnd) (line : List ℕ) (v w : ActorView) (first s t : PipesView) (b c : Option (List ℕ)) → IsAnswered (Some of) line v s w t b c
+    → IfLasts of (AreResting first.seats → AreResting t.seats)
+rest_with lead_end.Done line v w first s t b c k = absurd k
+rest_with lead_end.LongLine line v w first s t b c k = absurd k
+rest_with lead_end.ReadFault line v w first s t b c k = absurd k
+rest_with lead_end.WriteFault line v w first s t b c k = λ r. k.resting
+rest_with lead_end.OutOfMemory line v w first s t b c k = tt
+
+pub lines_cut_rest : (of : LeadEnd) (line : List ℕ) (v w : ActorView) (first s t : PipesView) (b c : Option (List ℕ)) → IsAnsweredInTime (Some of) line v s w t b c
+    → IfLasts of (AreResting first.seats → AreResting t.seats)
+lines_cut_rest of line v w first s t b c (inl one) = rest_with of line v w first s t b c one
+lines_cut_rest of line v w first s t b c (inr two) = rest_with of (codes "roll") two.actor w first two.seats t two.told c two.roll
+
 -- ## One line
 pub past_grows : (s t : PipesView) (from : ℕ) → from ≡ length s.log.past → AreLater s t → from ≤ length t.log.past
 past_grows s t from e h =
@@ -304,16 +329,16 @@ written_text whole of s t a b from text e is h =
     subst (λ (n : ℕ). IsWritten whole a b (answer_text of (drop n t.log.past))) e (subst (λ (x : List ℕ). IsWritten whole a b x) is h)
 
 pub answered_well : (of : Answer) (line : List ℕ) (v w : ActorView) (s t : PipesView) (a b : Option (List ℕ)) (from : ℕ) (text : List ℕ)
-    → IsTaken s.log.nodes line of (kept_by v s.log) (kept_by w t.log) → has_names w ≡ true → AreLater s t → from ≡ length s.log.past
+    → IsTaken s.log.nodes line of (kept_by v s.log) (kept_by w t.log) → has_names w ≡ true → AreLater s t → AreResting t.seats → from ≡ length s.log.past
     → text ≡ answer_text of (drop from t.log.past) → Appends a b text → IsAnswered None line v s w t a b
-answered_well of line v w s t a b from text taken named later e is h =
-    record { of = of; taken = taken; named = named; later = later; written = written_text true of s t a b from text e is h }
+answered_well of line v w s t a b from text taken named later rests e is h =
+    record { of = of; taken = taken; named = named; later = later; resting = rests; written = written_text true of s t a b from text e is h }
 
 pub answered_ill : (of : Answer) (line : List ℕ) (v w : ActorView) (s t : PipesView) (a b : Option (List ℕ)) (from : ℕ) (text : List ℕ)
-    → IsTaken s.log.nodes line of (kept_by v s.log) (kept_by w t.log) → has_names w ≡ true → AreLater s t → from ≡ length s.log.past
+    → IsTaken s.log.nodes line of (kept_by v s.log) (kept_by w t.log) → has_names w ≡ true → AreLater s t → AreResting t.seats → from ≡ length s.log.past
     → text ≡ answer_text of (drop from t.log.past) → TakesFront a b text → IsAnswered (Some lead_end.WriteFault) line v s w t a b
-answered_ill of line v w s t a b from text taken named later e is h =
-    record { of = of; taken = taken; named = named; later = later; written = written_text false of s t a b from text e is h }
+answered_ill of line v w s t a b from text taken named later rests e is h =
+    record { of = of; taken = taken; named = named; later = later; resting = rests; written = written_text false of s t a b from text e is h }
 
 pub ruleset one_line = (past_grows, answered_well, answered_ill)
 
@@ -506,4 +531,8 @@ life_made of s t v n life given left a b playable law e h =
 pub life_piped : (of : LeadEnd) (s t : PipesView) (n life : ℕ) → s ≡ new_seats n life → IfLasts of (AreLater s t) → IfLasts of (AreLater (new_seats n life) t)
 life_piped of s t n life e h = subst (λ (x : PipesView). IfLasts of (AreLater x t)) e h
 
-pub ruleset whole_life = (begun_some, begun_new, begun_log, life_leads, life_made, life_piped)
+pub life_rests : (of : LeadEnd) (s t : PipesView) (n life : ℕ) → s ≡ new_seats n life → IfLasts of (AreResting s.seats → AreResting t.seats) → IfLasts of (AreResting t.seats)
+life_rests of s t n life e h =
+    if_lasts of (AreResting s.seats → AreResting t.seats) (AreResting t.seats) (λ f. f (subst (λ (x : PipesView). AreResting x.seats) (sym e) (fresh_rest n life))) h
+
+pub ruleset whole_life = (begun_some, begun_new, begun_log, life_leads, life_made, life_piped, life_rests)

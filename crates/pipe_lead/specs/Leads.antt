@@ -15,7 +15,7 @@ use Rattle.play_model.specs.Actions.{ActorView, new_actor_view, has_names, kept_
 use Rattle.play_model.specs.KeptActor.{KeptActor}
 use Rattle.play_threads.specs.Threads.{HasDone, FollowsActions}
 use Rattle.ns_tree.specs.declared.end.LastSpace.{LastSpace}
-use Rattle.pipe_seats.specs.Piped.{PipesView, AreLater}
+use Rattle.pipe_seats.specs.Piped.{PipesView, AreLater, AreResting}
 use Rattle.pipe_lead.specs.declared.answer.Answer.{Answer}
 use Rattle.pipe_lead.specs.declared.answer.Answer.TheVariants as answer
 use Rattle.pipe_lead.specs.declared.lead_end.LeadEnd.{LeadEnd}
@@ -71,12 +71,13 @@ abbrev pub IsWritten : Bool → Option (List ℕ) → Option (List ℕ) → List
 IsWritten true before now text = Appends before now text
 IsWritten false before now text = TakesFront before now text
 
--- One line was taken, and what is told of it was written, or a front of it.
+-- One line was taken, no request is under way, and what is told of it was written, or a front of it.
 pub record IsAnsweredAs (whole : Bool) (line : List ℕ) (old : ActorView) (was : PipesView) (new : ActorView) (now : PipesView) (before after : Option (List ℕ)) : Type 0 where
   pub of : Answer
   pub taken : IsTaken was.log.nodes line of (kept_by old was.log) (kept_by new now.log)
   pub named : has_names new ≡ true
   pub later : AreLater was now
+  pub resting : AreResting now.seats
   pub written : IsWritten whole before after (answer_text of (drop (length was.log.past) now.log.past))
 
 -- or the process ends with it

@@ -4,7 +4,7 @@ ghost use Rattle.base_outside.specs.Faults.{Rose};
 ghost use Rattle.play_calls.specs.Logs.{new_log};
 ghost use Rattle.play_model.specs.Actions.{kept_by, has_names, new_actor_view, IsIdleActor};
 ghost use Rattle.mesh.specs.Makers.{IsOfChores};
-ghost use Rattle.pipe_seats.specs.Piped.{AreLater, new_seats};
+ghost use Rattle.pipe_seats.specs.Piped.{AreLater, AreResting, new_seats};
 ghost use Rattle.pipe_lead.specs.Leads.{HasLed, Leads, IfLasts, IfLed, IsAnswered, IsAnsweredInTime, answer_text, end_of};
 
 use crate::answer::Answer;
@@ -77,6 +77,10 @@ fn answer_line<A: Actor, S: Source + Drop, K: Sink + Drop, O: Opener<S, K> + Dro
     let Ok(answer) = take_input(alloc, by, seats, line, &mut room.script) else {
         return Some(LeadEnd::OutOfMemory);
     };
+    // a round's calls are made to its end, so none is left: memory was wanting else
+    if !seats.are_resting() {
+        return Some(LeadEnd::OutOfMemory);
+    }
     let Ok(()) = print_answer(answer, seats, from, &mut room.out) else {
         return Some(LeadEnd::OutOfMemory);
     };
@@ -185,6 +189,7 @@ pub fn lead_lines<
     requires log { seats.old.log ≡ new_log seats.old.log.nodes true }
     ensures led { IfLasts result (HasLed seats.old.log.nodes (A.seen by.new) seats.new.log (I.left source.old) (I.left source.new) (P.taken sink.old) (P.taken sink.new) result) }
     ensures later { IfLasts result (AreLater seats.old seats.new) }
+    ensures resting { IfLasts result (AreResting seats.old.seats → AreResting seats.new.seats) }
     ensures read_fault { result ≡ LeadEnd.ReadFault → Rose (I.faults source.old) (I.faults source.new) }
     ensures no_read_fault { result ≢ LeadEnd.ReadFault → I.faults source.new ≡ I.faults source.old }
     ensures write_fault { result ≡ LeadEnd.WriteFault → Rose (P.faults sink.old) (P.faults sink.new) }
@@ -227,6 +232,7 @@ pub fn lead<A: Actor, S: Source + Drop, K: Sink + Drop, O: Opener<S, K> + Drop, 
     ensures led { IfLed result (λ seats. Leads nodes seats.log (I.left source.old) (I.left source.new) (P.taken sink.old) (P.taken sink.new) result.0) }
     ensures made { IfLed result (λ seats. IsOfChores nodes seats.log.past) }
     ensures piped { IfLed result (λ seats. AreLater (new_seats nodes life) seats) }
+    ensures resting { IfLed result (λ seats. AreResting seats.seats) }
     ensures read_fault { result.0 ≡ LeadEnd.ReadFault → Rose (I.faults source.old) (I.faults source.new) }
     ensures no_read_fault { result.0 ≢ LeadEnd.ReadFault → I.faults source.new ≡ I.faults source.old }
     ensures write_fault { result.0 ≡ LeadEnd.WriteFault → Rose (P.faults sink.old) (P.faults sink.new) }

@@ -3,13 +3,14 @@ ghost use Rattle.std.specs.Prelude.{◌≡◌, ◌++◌, OnOk};
 ghost use Rattle.pipe_lead.specs.Leads.{result_text, results_text, refusal_text};
 
 use base_words::{OutOfMemory, put, put_decimal};
-use journal_history::Record;
+use journal_history::{LentRecord, ListedRecord, Told};
 
 /// Adds a line of the record, if it is a result.
-fn put_result(out: &mut Vec<u8>, listed: &Record) -> Result<(), OutOfMemory>
+fn put_result(out: &mut Vec<u8>, listed: &ListedRecord) -> Result<(), OutOfMemory>
     ensures { OnOk result (out.new.items ≡ out.old.items ++ result_text listed.now) }
 {
-    let Record::Outcome { text } = listed else {
+    let ok = Told::OK;
+    let LentRecord::Outcome { text } = listed.lend(&ok) else {
         return Ok(());
     };
     put(out, b"= ")?;
@@ -19,7 +20,7 @@ fn put_result(out: &mut Vec<u8>, listed: &Record) -> Result<(), OutOfMemory>
 }
 
 /// Makes `out` the results of these lines of a record, a line each.
-pub(crate) fn print_results(out: &mut Vec<u8>, records: &[Record]) -> Result<(), OutOfMemory>
+pub(crate) fn print_results(out: &mut Vec<u8>, records: &[ListedRecord]) -> Result<(), OutOfMemory>
     ensures { OnOk result (out.new.items ≡ results_text records.now) }
 {
     out.clear();

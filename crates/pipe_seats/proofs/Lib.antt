@@ -1,2 +1,11 @@
+pub mod Counts
+pub mod LineParts
 pub mod PipeLaws
+pub mod SeatCalls
 pub mod SeatLaws
+pub mod SettledLaws
+pub mod ClusterLaws
+pub mod LifeLaws
+pub mod CarryLaws
+pub mod ProcessLaws
+pub mod TagLaws

@@ -8,9 +8,9 @@ use Rattle.std.proofs.lemmas.Grind.{flat_map-append}
 use Rattle.journal_core.specs.declared.request.Request.{Request}
 use Rattle.journal_core.specs.declared.reply.Reply.{Reply}
 use Rattle.journal_session.specs.Lines.{lines_text}
-use Rattle.journal_reply.specs.Reading.{reply_of}
-use Rattle.journal_reply.proofs.Texts.{only_texts}
-use Rattle.pipe_lines.specs.Tagged.{tagged}
+use Rattle.journal_text.specs.ReplyReading.{reply_of}
+use Rattle.journal_text.proofs.Texts.{only_texts}
+use Rattle.pipe_seats.specs.Tagged.{tagged}
 use Rattle.pipe_seats.specs.Calls.{IsStale, PassesStale, TakesAfterStale, IsReplyLine, IsReplyRead}
 
 -- ## Lines that are passed over

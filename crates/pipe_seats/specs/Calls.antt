@@ -10,7 +10,7 @@ use Rattle.journal_core.specs.declared.heard.Heard.TheVariants.{Answer, Silent}
 use Rattle.journal_core.specs.Peers.{FitsHeard}
 use Rattle.journal_text.specs.Texts.{request_text, reply_text}
 use Rattle.journal_session.specs.Lines.{lines_text}
-use Rattle.pipe_lines.specs.Tagged.{tagged}
+use Rattle.pipe_seats.specs.Tagged.{tagged}
 
 -- ## The ends
 -- what was written to the one end and what is still to be read of the other, where that is told

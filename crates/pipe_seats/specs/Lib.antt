@@ -1,3 +1,12 @@
+pub mod Tagged
+pub mod Ends
 pub mod Calls
+pub mod Seats
 pub mod Piped
 pub mod LaterLaws
+pub mod Settled
+pub mod Cluster
+pub mod Lives
+pub mod Carried
+pub mod Processes
+pub mod Tags

@@ -1,6 +1,6 @@
 -- A caller's seats over pipes: what was written to each node and read of it is what the record
--- lists.
-use Rattle.std.specs.Prelude.{◌≡◌, ℕ, ◌+◌, ◌<◌, true, List, [], ◌∷◌, ◌++◌, length, replicate, slice_index_or}
+-- lists, and behind it at most one request that is under way.
+use Rattle.std.specs.Prelude.{◌≡◌, ℕ, ◌+◌, ◌<◌, true, List, [], ◌∷◌, ◌++◌, length, replicate, slice_index_or, None}
 use Rattle.journal_core.specs.declared.request.Request.{Request}
 use Rattle.journal_core.specs.declared.heard.Heard.{Heard}
 use Rattle.journal_core.specs.declared.heard.Heard.TheVariants.{Answer, Silent}
@@ -15,15 +15,16 @@ use Rattle.mesh.specs.Marks.{next_number, IsAsMarked}
 use Rattle.mesh.specs.Makers.{heard_of}
 use Rattle.play_calls.specs.Logs.{LogView, new_log, with_line}
 use Rattle.pipe_seats.specs.Calls.{PipeView, unopened, IsCalledAt}
+use Rattle.pipe_seats.specs.Seats.{SeatView, unopened_seat, IsAhead}
 
--- what contracts see of the seats: the pipe to each node, and what was listed
+-- what contracts see of the seats: that at each node, and what was listed
 pub record PipesView : Type 0 where
-  pub pipes : List PipeView
+  pub seats : List SeatView
   pub log : LogView
 
 -- of so many nodes, in this life of a caller who made no call
 abbrev pub new_seats : ℕ → ℕ → PipesView
-new_seats nodes life = record { pipes = replicate nodes (unopened life); log = new_log nodes true }
+new_seats nodes life = record { seats = replicate nodes (unopened_seat life); log = new_log nodes true }
 
 -- what is told of a call that goes so, whatever was heard
 pub record IsTold (delivery : Delivery) (t : Told) : Type 0 where
@@ -36,14 +37,6 @@ WentAs r (told.Reply reply) old new = IsCalledAt old new r (Answer reply)
 WentAs r told.Silent old new = IsCalledAt old new r Silent
 WentAs r told.Muted old new = (heard : Heard) × IsCalledAt old new r heard
 WentAs r told.Dropped old new = new ≡ old
-
--- A call over the pipe of its node: it was told as the marks say, and listed.
-pub record IsCalledOver (old new : LogView) (before after : PipeView) (node : ℕ) (r : Request) (heard : Heard) : Type 0 where
-  pub told_so : Told
-  pub hears : heard ≡ heard_of told_so
-  pub as_marked : IsAsMarked old.marks node (next_number node old.past) told_so
-  pub listed : new ≡ with_line old (Call node r told_so)
-  pub went : WentAs r told_so before after
 
 -- the line of the record reached this node, or would have but for a mark
 abbrev pub IsOf : ℕ → Record → Type 0
@@ -58,6 +51,20 @@ WentBy (Late k r) old new = (heard : Heard) × IsCalledAt old new r heard
 WentBy (Operator k ask done) old new = new ≡ old
 WentBy (Outcome text) old new = new ≡ old
 
+-- What a line did to the seat of its node, where none is under way then: this it did to the pipe as
+-- it was before what was under way was sent.
+pub record WentFrom (line : Record) (old new : SeatView) : Type 0 where
+  pub idle : new.under_way ≡ None
+  pub went : (before : PipeView) → IsAhead old.under_way before old.pipe → WentBy line before new.pipe
+
+-- A call from the seat of its node: it was told as the marks say, and listed.
+pub record IsCalledOver (old new : LogView) (before after : SeatView) (node : ℕ) (r : Request) (heard : Heard) : Type 0 where
+  pub told_so : Told
+  pub hears : heard ≡ heard_of told_so
+  pub as_marked : IsAsMarked old.marks node (next_number node old.past) told_so
+  pub listed : new ≡ with_line old (Call node r told_so)
+  pub went : WentFrom (Call node r told_so) before after
+
 -- what a line of the record did to the pipe of this node; a line of another node did nothing to it
 pub record Did (node : ℕ) (line : Record) (old new : PipeView) : Type 0 where
   pub here : IsOf node line → WentBy line old new
@@ -68,11 +75,29 @@ abbrev pub Goes : ℕ → List Record → PipeView → PipeView → Type 0
 Goes node [] old new = new ≡ old
 Goes node (line ∷ lines) old new = (between : PipeView) × Did node line old between × Goes node lines between new
 
+-- What these lines did to the seat of this node: some pipe came of them, and over it went since
+-- what is under way, and nothing else. Where a request was under way before, they begin with the
+-- pipe as it was before that was sent. Where none is under way, before and after, this is `Goes` of
+-- the pipes.
+abbrev pub Holds : ℕ → List Record → SeatView → SeatView → Type 0
+Holds node lines old new =
+    (before : PipeView) → IsAhead old.under_way before old.pipe → (after : PipeView) × Goes node lines before after × IsAhead new.under_way after new.pipe
+
 -- The second seats are the first ones some lines later: to each node's pipe came what these lines
--- say, and nothing else.
+-- say, and then what is under way, and nothing else.
 pub record AreLater (old new : PipesView) : Type 0 where
   pub nodes : new.log.nodes ≡ old.log.nodes
-  pub count : length new.pipes ≡ length old.pipes
+  pub count : length new.seats ≡ length old.seats
   pub lines : List Record
   pub past : new.log.past ≡ old.log.past ++ lines
-  pub pipes : (i : ℕ) (d : PipeView) → i < length old.pipes → Goes (i + 1) lines (slice_index_or old.pipes i d) (slice_index_or new.pipes i d)
+  pub seats : (i : ℕ) (d : SeatView) → i < length old.seats → Holds (i + 1) lines (slice_index_or old.seats i d) (slice_index_or new.seats i d)
+
+-- No request is under way at any of these seats.
+pub record AreResting (seats : List SeatView) : Type 0 where
+  pub each : (i : ℕ) (d : SeatView) → i < length seats → (slice_index_or seats i d).under_way ≡ None
+
+-- So in a life that ends like that to each node's pipe came what its record says, and nothing else.
+abbrev pub LivesWent : Type 0
+LivesWent =
+    (nodes life : ℕ) (s : PipesView) → AreLater (new_seats nodes life) s → AreResting s.seats → (i : ℕ) (d : SeatView) → i < nodes
+    → Goes (i + 1) s.log.past (unopened life) (slice_index_or s.seats i d).pipe

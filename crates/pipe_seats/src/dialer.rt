@@ -1,13 +1,12 @@
-//! Calls over pipes, of which those that aren't in use are opened again.
-ghost use Rattle.std.specs.Prelude.{◌≡◌, ◌≤◌, IfOk, OnOk};
-ghost use Rattle.journal_core.specs.Peers.{FitsHeard};
-ghost use Rattle.pipe_seats.specs.Calls.{IsReady, IsCalledAt};
+//! Pipes that aren't in use are opened again.
+ghost use Rattle.std.specs.Prelude.{◌≤◌, OnOk};
+ghost use Rattle.pipe_seats.specs.Calls.{IsReady};
 
 use crate::line_room::LineRoom;
 use crate::node_pipe::NodePipe;
 use crate::opener::Opener;
 use base_outside::{Sink, Source};
-use journal_core::{Heard, OutOfMemory, Request};
+use journal_core::{OutOfMemory, Request};
 use std::alloc::Global;
 
 /// Who opens the pipes, and the room for a request's line.
@@ -26,7 +25,7 @@ fn may_join(request: &Request) -> bool {
 }
 
 /// Opens a pipe again that isn't in use, where the request is one to join with.
-fn make_ready<S: Source + Drop, K: Sink + Drop, O: Opener<S, K>>(
+pub(crate) fn make_ready<S: Source + Drop, K: Sink + Drop, O: Opener<S, K>>(
     alloc: Global,
     opener: &mut O,
     pipe: &mut NodePipe<S, K>,
@@ -43,20 +42,4 @@ fn make_ready<S: Source + Drop, K: Sink + Drop, O: Opener<S, K>>(
         Some((source, sink)) => pipe.open_again(alloc, source, sink),
         None => Ok(()),
     }
-}
-
-/// A call over the pipe to this node.
-pub(crate) fn call_at<S: Source + Drop, K: Sink + Drop, O: Opener<S, K>>(
-    alloc: Global,
-    dialer: &mut Dialer<O>,
-    pipe: &mut NodePipe<S, K>,
-    node: usize,
-    request: &Request,
-) -> Result<Heard, OutOfMemory>
-    requires low { 1 ≤ node }
-    ensures called { IfOk result (λ heard. IsCalledAt pipe.old pipe.new request.now heard) }
-    ensures fits { IfOk result (λ heard. FitsHeard request.now heard) }
-{
-    make_ready(alloc, &mut dialer.opener, pipe, node, request)?;
-    pipe.call(alloc, request, &mut dialer.room)
 }

@@ -2,9 +2,9 @@
 ghost use Rattle.std.specs.Prelude.{◌≡◌, OnOk};
 ghost use Rattle.pipe_seats.specs.Calls.{request_line};
 
+use crate::tagged_line::put_tagged;
 use journal_core::{OutOfMemory, Request};
 use journal_text::print_request;
-use pipe_lines::put_tagged;
 use std::alloc::Global;
 
 /// Room for a request's text and for its line, which is used again for each call.

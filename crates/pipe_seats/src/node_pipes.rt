@@ -1,6 +1,8 @@
 //! The pipes to nodes in a folder of the system.
+use crate::file_sink::FileSink;
+use crate::file_source::FileSource;
 use crate::opener::Opener;
-use pipe_lines::{FileSink, FileSource, open_to_ask};
+use crate::opening::open_to_ask;
 use std::fs::Files;
 
 /// The folder of the pipes to nodes.

@@ -3,11 +3,11 @@ ghost use Rattle.std.specs.Prelude.{◌≡◌, true, false, IfOk, IfSome};
 ghost use Rattle.journal_session.specs.Reader.{to_come};
 ghost use Rattle.pipe_seats.specs.Calls.{TakesAfterStale, IsReplyLine};
 
+use crate::tagged_line::{TaggedLine, read_tagged};
 use base_outside::Source;
 use journal_core::{OutOfMemory, Reply, Request};
-use journal_reply::read_reply;
 use journal_session::{LineReader, Next};
-use pipe_lines::{TaggedLine, read_tagged};
+use journal_text::read_reply;
 use std::alloc::Global;
 
 /// Whether the line is of this call of this life.

@@ -10,7 +10,7 @@ use Rattle.journal_core.specs.declared.reply.Reply.{Reply}
 use Rattle.journal_text.specs.Reading.{reading_of}
 use Rattle.journal_text.specs.declared.request_line.ReadRequest.TheVariants.{Read, Bad}
 use Rattle.disk_node.specs.Node.{IsNoFault}
-use Rattle.pipe_lines.specs.Tagged.{IsTagged, tagged}
+use Rattle.pipe_seats.specs.Tagged.{IsTagged, tagged}
 use Rattle.pipe_serve.specs.declared.session_end.SessionEnd.{SessionEnd}
 use Rattle.pipe_serve.specs.declared.session_end.SessionEnd.TheVariants as session_end
 use Rattle.pipe_serve.specs.Sessions.{Answered, SinkUse, reply_line, refusal, IsAsked, IsAskedWell, IsFaultOf, IsServed, IsServedWell, IsCutShort, IsTurnedAway, IsUnwritten, IsFaulted, IsForgotten}

@@ -14,7 +14,7 @@ use Rattle.journal_session.specs.Lines.{longest_line, IsLine}
 use Rattle.journal_session.specs.declared.next.Next.{Next}
 use Rattle.journal_session.specs.declared.next.Next.TheVariants as next
 use Rattle.disk_node.specs.Node.{IsNoFault}
-use Rattle.pipe_lines.specs.Tagged.{IsTagged, tagged}
+use Rattle.pipe_seats.specs.Tagged.{IsTagged, tagged}
 use Rattle.pipe_serve.specs.declared.session_end.SessionEnd.{SessionEnd}
 use Rattle.pipe_serve.specs.declared.session_end.SessionEnd.TheVariants as session_end
 

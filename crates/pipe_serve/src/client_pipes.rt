@@ -1,6 +1,6 @@
 //! The pipes of clients in a folder of the system.
 use crate::ports::Ports;
-use pipe_lines::{FileSink, FileSource, open_to_answer};
+use pipe_seats::{FileSink, FileSource, open_to_answer};
 use std::fs::Files;
 
 /// The folder of the pipes of clients.

@@ -3,7 +3,7 @@ ghost use Rattle.std.specs.Prelude.{◌≡◌, OnOk, MatchOption, IfNone};
 ghost use Rattle.base_outside.specs.Whole.{TakesFront};
 ghost use Rattle.disk_node.specs.Node.{IsNoFault};
 ghost use Rattle.journal_text.specs.Reading.{reading_of};
-ghost use Rattle.pipe_lines.specs.Tagged.{tagged};
+ghost use Rattle.pipe_seats.specs.Tagged.{tagged};
 ghost use Rattle.pipe_serve.specs.Sessions.{IsFaultOf, IsServed, IsSession, end_of, read_from, refusal, reply_line, told_at, written_to};
 
 use crate::session_end::SessionEnd;
@@ -11,7 +11,7 @@ use base_outside::{Sink, Source, write_all};
 use journal_core::{OutOfMemory, Refusal, Reply, Request};
 use journal_session::{LineReader, Next, SessionNode};
 use journal_text::{ReadRequest, print_reply, read_request};
-use pipe_lines::{TaggedLine, put_tagged, read_tagged};
+use pipe_seats::{TaggedLine, put_tagged, read_tagged};
 use std::alloc::Global;
 
 /// What is written where a line is no request. It is no reply: who waits for one is to wait no

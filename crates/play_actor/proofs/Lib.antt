@@ -9,3 +9,13 @@ pub mod RoundLaws
 pub mod LineLaws
 pub mod EditLaws
 pub mod EntryLaws
+pub mod KeptSteps
+pub mod KeptLists
+pub mod KeptTurns
+pub mod KeptLines
+pub mod LineTaken
+pub mod SeatsGo
+pub mod ClusterLaws
+pub mod PlayLaws
+pub mod NodesLeft
+pub mod ImagesLeft

@@ -6,3 +6,9 @@ pub mod Rounds
 pub mod Submitting
 pub mod Refusals
 pub mod Kinds
+pub mod Kept
+pub mod Shown
+pub mod PlaySeats
+pub mod SeatLaws
+pub mod Ready
+pub mod Goal

@@ -1,10 +1,15 @@
 //! The program's actor: what it does with each line of a script, over the seats through which it
-//! calls.
+//! calls; plays: nodes, and actors of any kind, taken through a script's lines in order.
 #![tactic(auto)]
 
 mod actions;
+mod cluster;
 mod name_node;
 mod named_lines;
+mod play_seats;
+mod played_on;
+mod player;
+mod playing;
 mod role;
 mod rounds;
 mod script_actor;
@@ -15,4 +20,6 @@ mod takeovers;
 mod unmoved;
 
 pub use actions::{say_all, take_late, take_mark, take_task};
+pub use played_on::PlayedOn;
+pub use playing::{plain_nodes, play, play_on};
 pub use script_actor::ScriptActor;

@@ -12,8 +12,8 @@ use Rattle.journal_core.specs.declared.peer_call.PeerCall.{PeerCall}
 use Rattle.journal_core.specs.declared.reply.Reply.TheVariants as reply
 use Rattle.journal_core.specs.declared.request.Request.TheVariants.{Read}
 use Rattle.journal_core.specs.declared.request.Request.{Request}
-use Rattle.journal_mirror.specs.Fetching.{call_of, HasBody}
-use Rattle.journal_mirror.specs.Logs.{made_since}
+use Rattle.writer_calls.specs.Fetching.{call_of, HasBody}
+use Rattle.writer_calls.specs.Logs.{made_since}
 use Rattle.ns_tree.specs.Space.{Space, empty_space}
 use Rattle.ns_edits.specs.Replay.{Applied, All, BadEntry, goes_on, applied, replay_from, replay}
 use Rattle.ns_edits.proofs.Splits.{has_gone, HasGone, log_joins, log_splits, none≢some, nothing_replayed}

@@ -13,9 +13,9 @@ use Rattle.journal_core.specs.declared.node_state.NodeState.{NodeState}
 use Rattle.journal_core.specs.declared.peer_call.PeerCall.{PeerCall}
 use Rattle.journal_core.specs.declared.request.Request.{Request}
 use Rattle.journal_core.specs.declared.request.Request.TheVariants.{Read}
-use Rattle.journal_mirror.specs.Directs.{DirectView, CallsGo, AreCalled}
-use Rattle.journal_mirror.specs.States as mirror
-use Rattle.journal_mirror.proofs.Steady.{Answered, calls_answered}
+use Rattle.writer_calls.specs.Directs.{DirectView, CallsGo, AreCalled}
+use Rattle.writer_calls.specs.States as mirror
+use Rattle.writer_calls.proofs.Steady.{Answered, calls_answered}
 use Rattle.ns_edits.specs.Replay.{Image}
 use Rattle.ns_store.specs.Answers.{IsNewest}
 use Rattle.ns_store.specs.declared.newest_answer.Newest.TheVariants as newest

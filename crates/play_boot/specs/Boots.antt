@@ -11,7 +11,7 @@ use Rattle.journal_core.specs.declared.heard.Heard.TheVariants.{Answer}
 use Rattle.journal_core.specs.declared.peer_call.PeerCall.{PeerCall}
 use Rattle.journal_core.specs.declared.reply.Reply.TheVariants as reply
 use Rattle.journal_core.specs.declared.request.Request.TheVariants.{Read}
-use Rattle.journal_mirror.specs.Fetching.{call_of, HasBody}
+use Rattle.writer_calls.specs.Fetching.{call_of, HasBody}
 use Rattle.ns_edits.specs.Replay.{Image, replay}
 use Rattle.ns_store.specs.Answers.{IsNewest}
 use Rattle.ns_store.specs.Images.{image_in, Counts}

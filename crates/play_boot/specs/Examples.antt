@@ -3,7 +3,7 @@ use Rattle.std.specs.Prelude.{ℕ, List, [], ◌∷◌, Option, Some}
 use Rattle.journal_core.specs.Examples.{by, state_after}
 use Rattle.journal_core.specs.declared.node_state.NodeState.{NodeState}
 use Rattle.journal_core.specs.declared.request.Request.TheVariants as request
-use Rattle.journal_mirror.specs.Examples.{written_on}
+use Rattle.writer_calls.specs.Examples.{written_on}
 use Rattle.ns_edits.specs.Replay.{Image}
 use Rattle.ns_tree.specs.Space.{empty_space}
 use Rattle.play_standby.specs.Standbys.{StandbyView}

@@ -7,7 +7,7 @@ ghost use Rattle.ns_store.specs.Answers.{IsNewest};
 ghost use Rattle.ns_store.specs.declared.newest_answer.Newest.TheVariants.{NoImage};
 ghost use Rattle.play_names.specs.declared.tailed.Tailed.TheVariants.{Caught};
 ghost use Rattle.play_standby.specs.Standbys.{empty_standby};
-ghost use Rattle.journal_mirror.specs.Logs.{made_since};
+ghost use Rattle.writer_calls.specs.Logs.{made_since};
 ghost use Rattle.play_boot.specs.Boots.{IsBooted, LeavesDisk, HasNoneOrCopy, TailsTo, from_result, to_result, booted_as, IsImageOf, ReadsAgree, IsBootedOf};
 ghost use Rattle.play_boot.specs.Stages.{kept_result, IsFull, TailsNot, IsSmall, Keeps, KeepsNot, txid_of};
 

@@ -1,6 +1,6 @@
 //! Worked examples, computed by the check.
 ghost use Rattle.std.specs.Prelude.{◌≡◌, [], Some};
-ghost use Rattle.journal_mirror.specs.Examples.{one_down};
+ghost use Rattle.writer_calls.specs.Examples.{one_down};
 ghost use Rattle.play_names.specs.Tails.{Ends, Caught, PurgedFrom};
 ghost use Rattle.play_standby.specs.Standbys.{empty_standby, held};
 ghost use Rattle.play_boot.specs.Nodes.{begun_of, image_of, EndsAt};

@@ -2,7 +2,7 @@
 ghost use Rattle.std.specs.Prelude.{◌≡◌, ◌≤◌, List, length, map};
 ghost use Rattle.std.specs.List.{All};
 ghost use Rattle.base_disk.specs.MemDisk.{CannotFail};
-ghost use Rattle.journal_mirror.specs.States.{IsTold};
+ghost use Rattle.writer_calls.specs.States.{IsTold};
 ghost use Rattle.ns_edits.specs.Replay.{Image};
 ghost use Rattle.play_names.specs.ImageDisks.{HoldsOn};
 ghost use Rattle.play_boot.specs.Nodes.{HoldsSome, IsBootedOver};
@@ -11,8 +11,8 @@ use crate::booted::Booted;
 use crate::bootstrapping::bootstrap;
 use base_disk::{Choice, MemDisk};
 use journal_core::Node;
-use journal_mirror::Direct;
 use std::alloc::Global;
+use writer_calls::Direct;
 
 /// The disk as it is, with no call that is set to fail.
 fn steadied(images: MemDisk) -> MemDisk

@@ -13,7 +13,7 @@ ghost use Rattle.play_calls.specs.Logs.{new_log, with_line, lose_call, copy_call
 use crate::calls_to::CallsTo;
 use crate::delivery::Delivery;
 use journal_core::{Bytes, OutOfMemory, SharedRequest};
-use journal_history::{ActorPlan, Mark, MarkKind, NodeAsk, Record, RecordList, Told};
+use journal_history::{ActorPlan, ListedRecord, Mark, MarkKind, NodeAsk, Record, RecordList, Told};
 use std::alloc::{AllocError, Global};
 use std::marker::Model;
 
@@ -94,7 +94,7 @@ impl CallerLog {
     }
 
     /// What was listed.
-    pub fn records(&self) -> &[Record]
+    pub fn records(&self) -> &[ListedRecord]
         ensures { result.now ≡ self.now.past }
     {
         self.past.as_slice()

@@ -13,7 +13,7 @@ ghost use Rattle.play_calls.specs.Indexes.{IsIndex, asked_at};
 
 use crate::delivery::Delivery;
 use journal_core::{OutOfMemory, SharedRequest};
-use journal_history::Record;
+use journal_history::{LentRecord, ListedRecord, Told};
 use std::alloc::Global;
 use std::collections::BTreeSet;
 
@@ -40,12 +40,15 @@ impl Drop for CallsTo {
 }
 
 /// What the call at this place of the record asked.
-fn asked_at(past: &[Record], place: usize) -> Result<Option<SharedRequest>, OutOfMemory>
+fn asked_at(past: &[ListedRecord], place: usize) -> Result<Option<SharedRequest>, OutOfMemory>
     ensures request { IfOk result (λ request. request ≡ asked_at past.now place) }
     ensures memory { OnErr result (IsSome (asked_at past.now place)) }
 {
-    match past.get(place) {
-        Some(Record::Call { request, .. }) => Ok(Some(request.share()?)),
+    let Some(line) = past.get(place) else {
+        return Ok(None);
+    };
+    match line.lend(&Told::OK) {
+        LentRecord::Call { request, .. } => Ok(Some(request.share()?)),
         _ => Ok(None),
     }
 }
@@ -131,7 +134,7 @@ impl CallsTo {
     /// be wanted.
     pub(crate) fn earlier(
         &self,
-        past: &[Record],
+        past: &[ListedRecord],
         call: u64,
     ) -> Result<Option<SharedRequest>, OutOfMemory>
         requires { 1 ≤ call }

@@ -1,7 +1,7 @@
 -- What nodes told, one after another.
 use Rattle.std.proofs.Common.{ℕ, ◌≡◌, ◌<◌, ◌≤◌, ◌+◌, List, ◌++◌, length, drop, get_or, sym, ◌∙◌, ap, append_assoc, append-nil}
 use Rattle.std.proofs.lemmas.List.{drop_more, drop_all}
-use Rattle.journal_mirror.specs.declared.told.NodeTold.{NodeTold}
+use Rattle.writer_calls.specs.declared.told.NodeTold.{NodeTold}
 use Rattle.play_report.specs.Mirrored.{told_text, nodes_told_text}
 
 -- one more node

@@ -6,8 +6,8 @@ use Rattle.journal_core.specs.declared.segment_line.SegmentLine.{SegmentLine}
 use Rattle.journal_text.specs.Texts.{numbers_text}
 use Rattle.writer_core.specs.declared.cause.Cause.{Cause}
 use Rattle.writer_core.specs.declared.cause.Cause.TheVariants.{Ok, Silent, OutOfSync, Refused}
-use Rattle.journal_mirror.specs.declared.synced.Missing.{Missing}
-use Rattle.journal_mirror.specs.declared.told.NodeTold.{NodeTold}
+use Rattle.writer_calls.specs.declared.synced.Missing.{Missing}
+use Rattle.writer_calls.specs.declared.told.NodeTold.{NodeTold}
 use Rattle.play_names.specs.Results.{cause_words}
 use Rattle.play_report.specs.Summary.{summary_line}
 

@@ -1,11 +1,12 @@
 //! What was asked of a node, and what came of it.
 ghost use Rattle.std.specs.Prelude.{◌≡◌, ◌++◌, ◌∷◌, [], OnOk};
+ghost use Rattle.journal_history.specs.Listed.{shown_ask};
 ghost use Rattle.play_report.specs.Text.{arrow, choice_text, stop_text, late_text, ask_text, answer_text, heard_text, done_text};
 
 use crate::parts::{put_pair, put_spaced};
 use crate::printed_requests::PrintedRequests;
 use journal_core::{Cut, OutOfMemory, Reply};
-use journal_history::{NodeAnswer, NodeAsk, Stop, Told};
+use journal_history::{LentAsk, NodeAnswer, Stop, Told};
 use journal_text::print_reply;
 
 fn put_choice(out: &mut Vec<u8>, cut: Cut) -> Result<(), OutOfMemory>
@@ -50,18 +51,18 @@ fn put_late(out: &mut Vec<u8>, late: bool) -> Result<(), OutOfMemory>
 pub(crate) fn put_ask(
     out: &mut Vec<u8>,
     printed: &mut PrintedRequests,
-    ask: &NodeAsk,
+    ask: LentAsk<'_>,
 ) -> Result<(), OutOfMemory>
-    ensures { OnOk result (out.new.items ≡ out.old.items ++ ask_text ask.now) }
+    ensures { OnOk result (out.new.items ≡ out.old.items ++ ask_text (shown_ask ask.entry)) }
 {
     match ask {
-        NodeAsk::Act { late, request } => {
-            put_late(out, *late)?;
+        LentAsk::Act { late, request } => {
+            put_late(out, late)?;
             printed.put(out, request)
         }
-        NodeAsk::Kill => out.extend_from_slice(b"kill"),
-        NodeAsk::Restart => out.extend_from_slice(b"restart"),
-        NodeAsk::Arm { calls, stop } => put_stop(out, *calls, stop.get()),
+        LentAsk::Kill => out.extend_from_slice(b"kill"),
+        LentAsk::Restart => out.extend_from_slice(b"restart"),
+        LentAsk::Arm { calls, stop } => put_stop(out, calls, stop.get()),
     }
 }
 

@@ -1,12 +1,15 @@
 //! What is told of a standby that began from an image.
-ghost use Rattle.std.specs.Prelude.{◌≡◌, ◌<◌, ◌≤◌, ◌++◌, length, Err, IfOk, OnOk};
+ghost use Rattle.std.specs.Prelude.{◌≡◌, ◌<◌, ◌≤◌, ◌++◌, length, [], ◌∷◌, codes, Err, IfOk, OnOk};
+ghost use Rattle.journal_text.specs.Texts.{numbers_text};
 ghost use Rattle.play_report.specs.Booted.{image_words, booted_text, unreachable_text, booted_behind_text};
 ghost use Rattle.play_report.specs.Limit.{longest_report, Reports};
 
 use crate::answer::Report;
 use crate::lasts::put_rows;
 use crate::parts::{put_pair, put_spaced};
+use crate::printing::{Printing, Taker};
 use crate::unprinted::{Unprinted, within_limit};
+use crate::whole::Whole;
 use journal_core::OutOfMemory;
 use ns_tree::LastSpace;
 use play_names::push_causes;
@@ -23,20 +26,31 @@ fn put_image(out: &mut Vec<u8>, image: Option<u64>) -> Result<(), OutOfMemory>
     }
 }
 
-/// All that is told of a standby that began.
-#[tactic(auto, using(crate::proofs::LimitLaws::wholes), unfolding(crate::specs::Booted::booted_text))]
-fn put_booted(out: &mut Vec<u8>, image: Option<u64>, last: &LastSpace) -> Result<(), Unprinted>
-    ensures text { OnOk result (out.new.items ≡ out.old.items ++ booted_text image last.now) }
-    ensures within { OnOk result (length out.new.items ≤ longest_report) }
-    ensures long { result ≡ Err Unprinted.TooLong → longest_report < length (out.old.items ++ booted_text image last.now) }
+/// The line of where a standby began and how many entries it has applied.
+fn put_start(out: &mut Vec<u8>, image: Option<u64>, position: u64) -> Result<(), OutOfMemory>
+    ensures { OnOk result (out.new.items ≡ out.old.items ++ codes "boot" ++ image_words image ++ numbers_text (position ∷ []) ++ 10 ∷ []) }
 {
     out.extend_from_slice(b"boot")?;
     put_image(out, image)?;
-    put_spaced(out, last.position)?;
+    put_spaced(out, position)?;
     out.push(b'\n')?;
+    Ok(())
+}
+
+/// All that is told of a standby that began.
+#[tactic(auto, using(crate::proofs::LimitLaws::wholes), unfolding(crate::specs::Booted::booted_text))]
+fn put_booted<T: Taker>(
+    out: &mut Printing<T>,
+    image: Option<u64>,
+    last: &LastSpace,
+) -> Result<(), Unprinted>
+    ensures text { OnOk result (out.new ≡ out.old ++ booted_text image last.now) }
+    ensures long { result ≡ Err Unprinted.TooLong → longest_report < length (out.old ++ booted_text image last.now) }
+{
+    put_start(&mut out.text, image, last.position)?;
     put_rows(out, last.rows.as_slice())?;
-    out.extend_from_slice(b"end\n")?;
-    within_limit(out)
+    out.add(b"end\n")?;
+    Ok(())
 }
 
 /// The text, as far as there is memory.
@@ -45,9 +59,11 @@ fn text_booted(alloc: Global, image: Option<u64>, last: &LastSpace) -> Result<Ve
     ensures within { IfOk result (λ text. length text.items ≤ longest_report) }
     ensures long { result ≡ Err Unprinted.TooLong → longest_report < length (booted_text image last.now) }
 {
-    let mut out = Vec::new(alloc);
+    let mut out = Printing::to(alloc, Whole);
     put_booted(&mut out, image, last)?;
-    Ok(out)
+    let Printing { taker: _, text } = out;
+    within_limit(&text)?;
+    Ok(text)
 }
 
 /// A standby that began: the txid of its image, if there was one, how many entries it has applied,
@@ -62,7 +78,7 @@ pub fn print_booted(
     match text_booted(alloc, image, last) {
         Ok(text) => Ok(Report::Text(text)),
         Err(Unprinted::TooLong) => Ok(Report::TooLong),
-        Err(Unprinted::OutOfMemory) => Err(AllocError),
+        Err(Unprinted::Parts { .. } | Unprinted::OutOfMemory) => Err(AllocError),
     }
 }
 

@@ -6,9 +6,9 @@ ghost use Rattle.play_report.specs.Mirrored.{told_after, told_text, nodes_told_t
 use crate::parts::{put_pair, put_spaced};
 use crate::summary::put_line;
 use journal_core::{OutOfMemory, SegmentLine};
-use journal_mirror::{Missing, NodeTold};
 use play_names::push_causes;
 use std::alloc::Global;
+use writer_calls::{Missing, NodeTold};
 use writer_core::Cause;
 
 /// How many final segments a node told, or why it told none, after a space.

@@ -50,11 +50,11 @@ pub fn put_pair(out: &mut Vec<u8>, first: u64, second: u64) -> Result<(), OutOfM
     Ok(())
 }
 
-/// An actor's name by its number; a greater number is the operator's.
-pub fn caller_name<'a>(ends: &'a [End], caller: u32) -> &'a [u8]
+/// An actor's name by its number, from 0; a greater number is the operator's.
+pub fn caller_name(ends: &[End], caller: usize) -> &[u8]
     ensures { result.now ≡ caller_name ends.now caller }
 {
-    match ends.get(caller as usize) {
+    match ends.get(caller) {
         Some(end) => end.name.as_slice(),
         None => b"ops",
     }

@@ -2,7 +2,7 @@
 ghost use Rattle.std.specs.Prelude.{◌≡◌, count_by};
 ghost use Rattle.play_report.specs.Summary.{is_of_edit, is_digit, is_taken, is_of, is_result, results_of, word_of};
 
-use journal_history::{Record, RecordList};
+use journal_history::{LentRecord, ListedRecord, RecordList, Told};
 
 /// What a line of a summary counts.
 #[derive(Clone, Copy)]
@@ -83,19 +83,19 @@ fn is_of(kind: ResultKind, text: &[u8]) -> bool
 }
 
 /// The line is a result of that kind.
-fn is_result(kind: ResultKind, line: &Record) -> bool
+fn is_result(kind: ResultKind, line: &ListedRecord) -> bool
     ensures { result ≡ is_result kind line.now }
 {
-    match line {
-        Record::Outcome { text } => is_of(kind, text.as_slice()),
-        Record::Call { .. } => false,
-        Record::Late { .. } => false,
-        Record::Operator { .. } => false,
+    match line.lend(&Told::OK) {
+        LentRecord::Outcome { text } => is_of(kind, text.as_slice()),
+        LentRecord::Call { .. } => false,
+        LentRecord::Late { .. } => false,
+        LentRecord::Operator { .. } => false,
     }
 }
 
 /// How many results of that kind a record has.
-fn count_in(kind: ResultKind, lines: &[Record]) -> u64
+fn count_in(kind: ResultKind, lines: &[ListedRecord]) -> u64
     ensures { result ≡ count_by (is_result kind) lines.now }
 {
     lines.iter().filter(|line| is_result(kind, *line)).count() as u64

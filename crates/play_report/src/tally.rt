@@ -5,7 +5,7 @@ ghost use Rattle.play_report.specs.Summary.{no_tally, ok_heard, is_ok, request_h
 ghost use Rattle.journal_core.specs.Views.{last_txid};
 
 use journal_core::{Batch, Head, Reply, Request};
-use journal_history::{Record, RecordList, Told};
+use journal_history::{LentRecord, ListedRecord, RecordList, Told};
 
 /// The journal round under way in a record, how many nodes answered it with Ok, and the greatest
 /// last txid of the rounds that were done so far.
@@ -84,29 +84,29 @@ impl Tally {
     }
 
     /// One more line of the record.
-    fn take(self, nodes: usize, line: &Record) -> Tally
+    fn take(self, nodes: usize, line: &ListedRecord) -> Tally
         requires { self.oks + 1 < 2 ^ 64 }
         ensures taken { result ≡ tally_record nodes self line.now }
         ensures more { result.oks ≤ self.oks + 1 }
     {
-        match line {
-            Record::Call { request, told, .. } => {
+        match line.lend(&Told::OK) {
+            LentRecord::Call { request, told, .. } => {
                 if is_ok(told) {
                     self.hear_request(nodes, request.get())
                 } else {
                     self
                 }
             }
-            Record::Late { .. } => self,
-            Record::Operator { .. } => self,
-            Record::Outcome { .. } => self,
+            LentRecord::Late { .. } => self,
+            LentRecord::Operator { .. } => self,
+            LentRecord::Outcome { .. } => self,
         }
     }
 }
 
 /// The greatest last txid of the journal rounds that were done in a record, or 0.
 #[tactic(auto, unfolding(crate::specs::Summary::last_in))]
-fn last_in(nodes: usize, lines: &[Record]) -> u128
+fn last_in(nodes: usize, lines: &[ListedRecord]) -> u128
     ensures { result ≡ last_in nodes lines.now }
 {
     let mut tally = Tally::new();

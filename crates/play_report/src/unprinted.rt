@@ -13,6 +13,8 @@ pub const LONGEST_REPORT: usize = 268_435_456;
 pub enum Unprinted {
     /// The text is longer than the longest report.
     TooLong,
+    /// The text parts from the bytes that it is to have: so many of them came before.
+    Parts { at: usize },
     /// Memory ran out.
     OutOfMemory,
 }

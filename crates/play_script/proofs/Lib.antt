@@ -17,3 +17,6 @@ pub mod PushLaws
 pub mod PrintLaws
 pub mod OnlyLaws
 pub mod NamingLaws
+pub mod MadeEditLaws
+pub mod MadeLineLaws
+pub mod MadeScriptLaws

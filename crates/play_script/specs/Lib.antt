@@ -9,3 +9,6 @@ pub mod Reading
 pub mod Laws
 pub mod Examples
 pub mod Naming
+pub mod Draws
+pub mod Generated
+pub mod MadeExamples

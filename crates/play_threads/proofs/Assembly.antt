@@ -17,9 +17,9 @@ use Rattle.mesh.specs.Matches.{reached, lines_of, AreSame, AreWithin, CallersWit
 use Rattle.mesh.proofs.Lists.{same_test, other_test}
 use Rattle.atomic_table.specs.Seated.{TableId}
 use Rattle.play_calls.specs.Logs.{LogView}
-use Rattle.play_gates.specs.Seated.{Seat}
-use Rattle.play_gates.specs.Gates.{row_at, IsLeft}
-use Rattle.play_gates.proofs.GateLaws.{element}
+use Rattle.play_threads.specs.Seated.{Seat}
+use Rattle.play_threads.specs.Gates.{row_at, IsLeft}
+use Rattle.play_threads.proofs.GateLaws.{element}
 use Rattle.play_model.specs.Lines.{Line, ArePlayable, count_actors, actions_of, operations_in}
 use Rattle.play_model.specs.Follows.{AreOperations}
 use Rattle.play_model.proofs.ChoresMade.{chores_made}

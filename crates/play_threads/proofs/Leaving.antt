@@ -6,7 +6,7 @@ use Rattle.journal_history.specs.declared.mark.Mark.{Mark}
 use Rattle.mesh.specs.Marks.{IsMarked, AreCopied}
 use Rattle.mesh.specs.Matches.{AreWithin}
 use Rattle.play_calls.specs.Logs.{new_log}
-use Rattle.play_gates.specs.Seated.{SeatsView, Seat, AreSeated, AreLater}
+use Rattle.play_threads.specs.Seated.{SeatsView, Seat, AreSeated, AreLater}
 use Rattle.ns_tree.specs.declared.end.LastSpace.{LastSpace}
 use Rattle.play_model.specs.Lines.{Line}
 use Rattle.play_threads.specs.Threads.{DoesLines}

@@ -1,3 +1,12 @@
+pub mod Histories
+pub mod Steps
+pub mod Calls
+pub mod GateEnds
+pub mod NodeLaws
+pub mod SeatLaws
+pub mod GateLaws
+pub mod CloseLaws
+pub mod CallLaws
 pub mod ActorLaws
 pub mod OperatorLaws
 pub mod EndLaws

@@ -4,7 +4,7 @@ use Rattle.play_script.specs.declared.script_line.ScriptLine.{ScriptLine}
 use Rattle.journal_history.specs.declared.record.Record.{Record}
 use Rattle.journal_history.specs.declared.record.Record.TheVariants.{Operator}
 use Rattle.mesh.specs.Makers.{IsOperators}
-use Rattle.play_gates.specs.LaterLaws.{later_same, later_on}
+use Rattle.play_threads.specs.LaterLaws.{later_same, later_on}
 use Rattle.play_model.specs.Lines.{Line, Declares, Acts, Operates, operations_in, line_of}
 use Rattle.play_model.specs.Follows.{AreOperations}
 use Rattle.play_model.proofs.Taking.{operations_append, operations_snoc, operators_snoc}

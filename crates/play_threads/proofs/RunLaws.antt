@@ -8,16 +8,16 @@ use Rattle.atomic_table.proofs.Lists.{at_index}
 use Rattle.atomic_table.specs.Seated.{TableId}
 use Rattle.journal_history.specs.declared.record.Record.{Record}
 use Rattle.journal_history.specs.declared.mark.Mark.{Mark}
-use Rattle.play_gates.specs.Board.{AllAt}
+use Rattle.play_threads.specs.Board.{AllAt}
 use Rattle.mesh.specs.declared.whole.Mesh.{Mesh}
 use Rattle.ns_tree.specs.declared.end.End.{End}
 use Rattle.ns_tree.specs.declared.end.LastSpace.{LastSpace}
 use Rattle.mesh.specs.Matches.{reached, AreSame}
 use Rattle.play_script.specs.declared.script_line.ScriptLine.{ScriptLine}
 use Rattle.play_calls.specs.Logs.{new_log}
-use Rattle.play_gates.specs.Seated.{Seat, AreSeated}
-use Rattle.play_gates.specs.Gates.{fresh_seat, fresh_columns, row_at, AreOf, IsLeft}
-use Rattle.play_gates.proofs.GateLaws.{element}
+use Rattle.play_threads.specs.Seated.{Seat, AreSeated}
+use Rattle.play_threads.specs.Gates.{fresh_seat, fresh_columns, row_at, AreOf, IsLeft}
+use Rattle.play_threads.proofs.GateLaws.{element}
 use Rattle.play_model.specs.Actions.{MayCome}
 use Rattle.play_model.specs.Lines.{Line, count_actors, names_in}
 use Rattle.mesh.proofs.Lists.{same_test}

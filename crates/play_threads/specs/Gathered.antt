@@ -12,8 +12,8 @@ use Rattle.mesh.specs.Marks.{IsMarked, AreCopied}
 use Rattle.mesh.specs.Matches.{AreWithin}
 use Rattle.play_script.specs.declared.script_line.ScriptLine.{ScriptLine}
 use Rattle.play_calls.specs.Logs.{LogView, new_log}
-use Rattle.play_gates.specs.Seated.{Seat, AreSeated}
-use Rattle.play_gates.specs.Gates.{row_at, IsLeft}
+use Rattle.play_threads.specs.Seated.{Seat, AreSeated}
+use Rattle.play_threads.specs.Gates.{row_at, IsLeft}
 use Rattle.play_model.specs.Actions.{MayCome}
 use Rattle.play_model.specs.Lines.{Line, ArePlayable, count_actors, names_in}
 use Rattle.play_model.specs.Follows.{FollowsLines}

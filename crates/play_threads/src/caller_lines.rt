@@ -2,18 +2,21 @@
 ghost use Rattle.std.specs.List.{All};
 ghost use Rattle.std.specs.Prelude.{◌≡◌, ◌≤◌, ◌==◌, map, length, true, IfOk, OnOk};
 ghost use Rattle.play_calls.specs.Logs.{new_log};
-ghost use Rattle.play_gates.specs.Seated.{seat_of, AreSeated, AreLater};
+ghost use Rattle.play_threads.specs.Seated.{seat_of, AreSeated, AreLater};
 ghost use Rattle.play_model.specs.Lines.{line_of};
 ghost use Rattle.play_model.specs.Actions.{MayCome};
 ghost use Rattle.play_threads.specs.Threads.{DoesLines};
 ghost use Rattle.play_threads.specs.Gathered.{CallerLeaves};
 
 use crate::actors::Actors;
+use crate::at_gates::GateSeats;
+use crate::gate::{Gate, GateSeat};
+use crate::gated_node::NodeGate;
 use crate::operator_lines::operate_alone;
+use crate::pass::Pass;
 use journal_core::OutOfMemory;
 use journal_history::{ActorPlan, RecordList};
 use ns_tree::LastSpace;
-use play_gates::{Gate, GateSeat, GateSeats, NodeGate, Pass};
 use play_script::ScriptLine;
 use std::alloc::{AllocError, Global};
 use std::sync::Wait;

@@ -2,14 +2,16 @@
 ghost use Rattle.std.specs.List.{All};
 ghost use Rattle.std.specs.Prelude.{◌≡◌, map, true, OnOk};
 ghost use Rattle.play_calls.specs.Logs.{new_log};
-ghost use Rattle.play_gates.specs.Seated.{AreLater};
+ghost use Rattle.play_threads.specs.Seated.{AreLater};
 ghost use Rattle.play_model.specs.Lines.{line_of};
 ghost use Rattle.play_model.specs.Actions.{MayCome};
 ghost use Rattle.play_threads.specs.Threads.{OperatesOn, HasOperated};
 
+use crate::at_gates::GateSeats;
+use crate::gated_node::NodeGate;
+use crate::pass::Pass;
 use journal_core::OutOfMemory;
 use journal_history::{NodeAsk, SharedStop};
-use play_gates::{GateSeats, NodeGate, Pass};
 use play_script::ScriptLine;
 use std::alloc::Global;
 use std::sync::Wait;

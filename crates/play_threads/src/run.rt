@@ -8,11 +8,12 @@ ghost use Rattle.play_threads.specs.Gathered.{GatheredListsAgree, IsRunOf};
 
 use crate::actors::Actors;
 use crate::ends::ends_in;
+use crate::gates::{close_gates, open_gates};
+use crate::pass::Pass;
 use crate::threads::{jobs_of, side_by_side, take_all};
 use journal_core::{CutNode, OutOfMemory};
 use journal_history::{ActorPlan, Plan};
 use mesh::{HistoryTable, Mesh, RecordTable};
-use play_gates::{Pass, close_gates, open_gates};
 use play_model::{Played, actors_in};
 use play_script::Script;
 use std::alloc::{AllocError, Global};

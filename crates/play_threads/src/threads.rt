@@ -3,16 +3,18 @@ ghost use Rattle.std.specs.Prelude.{◌≡◌, ◌<◌, ◌+◌, ◌^◌, ℕ, L
 ghost use Rattle.journal_history.specs.declared.record.Record.{Record};
 ghost use Rattle.journal_history.specs.declared.mark.Mark.{Mark};
 ghost use Rattle.ns_tree.specs.declared.end.LastSpace.{LastSpace};
-ghost use Rattle.play_gates.specs.Seated.{seat_of};
+ghost use Rattle.play_threads.specs.Seated.{seat_of};
 ghost use Rattle.play_model.specs.Lines.{line_of};
 ghost use Rattle.play_threads.specs.Gathered.{MayAct, CallerLeaves, numbered_from};
 
 use crate::actors::Actors;
 use crate::caller_lines::{Left, take_lines};
+use crate::gate::{Gate, GateSeat};
+use crate::gated_node::GatedNode;
+use crate::pass::Pass;
 use journal_core::{CutNode, OutOfMemory};
 use journal_history::{ActorPlan, RecordList};
 use ns_tree::LastSpace;
-use play_gates::{Gate, GateSeat, GatedNode, Pass};
 use play_script::ScriptLine;
 use std::alloc::Global;
 use std::sync::Wait;

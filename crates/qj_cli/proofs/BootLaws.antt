@@ -11,7 +11,7 @@ use Rattle.journal_core.specs.declared.peer_call.PeerCall.{PeerCall}
 use Rattle.journal_core.specs.declared.reply.Reply.TheVariants as reply
 use Rattle.journal_core.specs.declared.request.Request.{Request}
 use Rattle.journal_core.specs.declared.request.Request.TheVariants.{Read}
-use Rattle.journal_mirror.specs.Fetching.{call_of}
+use Rattle.writer_calls.specs.Fetching.{call_of}
 use Rattle.mesh.specs.declared.whole.Mesh.{Mesh}
 use Rattle.mesh.specs.Agree.{Agrees}
 use Rattle.mesh.specs.Order.{epoch_order}

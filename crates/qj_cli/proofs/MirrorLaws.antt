@@ -9,13 +9,13 @@ use Rattle.journal_core.specs.Segments.{any_body, has_edit, IsWithin, AreSound}
 use Rattle.journal_core.specs.declared.node_state.NodeState.{NodeState}
 use Rattle.journal_core.specs.declared.segment.Segment.{Segment}
 use Rattle.journal_core.specs.declared.segment_line.SegmentLine.{SegmentLine}
-use Rattle.journal_mirror.specs.declared.synced.Missing.{Missing}
-use Rattle.journal_mirror.specs.declared.told.NodeTold.{NodeTold}
-use Rattle.journal_mirror.specs.Logs.{MirroredBy}
-use Rattle.journal_mirror.specs.Mirrors.{lines_of}
-use Rattle.journal_mirror.specs.States.{is_final_with_edit, told_at, mirror_of, IsNumbered, IsTold}
-use Rattle.journal_mirror.proofs.HoldLaws.{ComesOf, mirror_comes}
-use Rattle.journal_mirror.proofs.SteadyLaws.{told_map}
+use Rattle.writer_calls.specs.declared.synced.Missing.{Missing}
+use Rattle.writer_calls.specs.declared.told.NodeTold.{NodeTold}
+use Rattle.writer_calls.specs.Logs.{MirroredBy}
+use Rattle.writer_calls.specs.Mirrors.{lines_of}
+use Rattle.writer_calls.specs.States.{is_final_with_edit, told_at, mirror_of, IsNumbered, IsTold}
+use Rattle.writer_calls.proofs.HoldLaws.{ComesOf, mirror_comes}
+use Rattle.writer_calls.proofs.SteadyLaws.{told_map}
 use Rattle.mesh.specs.declared.whole.Mesh.{Mesh}
 use Rattle.mesh.specs.Agree.{Agrees}
 use Rattle.mesh.specs.Order.{epoch_order}

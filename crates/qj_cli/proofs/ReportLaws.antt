@@ -10,7 +10,7 @@ use Rattle.mesh.specs.Laws.{OrderIsRun}
 use Rattle.play_script.specs.Scripts.{ScriptView}
 use Rattle.play_script.specs.Laws.{TextIsOfOneScript}
 use Rattle.play_model.specs.Lines.{Line, lines_of, ArePlayable, IsPlayable}
-use Rattle.play_maker.specs.Generated.{generated}
+use Rattle.play_script.specs.Generated.{generated}
 use Rattle.play_model.specs.Plays.{Play, Plays, mesh_of, ends_of, IsPlayed}
 use Rattle.play_model.specs.Laws.{PlaysAgree, PlaysFollow, MeshesAreSafe, OnePlay}
 use Rattle.play_model.specs.Safe.{IsSafeWithEnds}

@@ -1,7 +1,7 @@
 -- What is due of the bytes of a report.
 use Rattle.std.specs.Prelude.{ℕ, ◌≡◌, ◌⊎◌, List}
 use Rattle.report_judge.specs.declared.judgement.Finding.{Finding}
-use Rattle.report_reading.specs.Reads.{IsLine}
+use Rattle.report_judge.specs.Reads.{IsLine}
 use Rattle.report_judge.specs.Judged.{OfAgreeing, OfDisagreeing, OfPlace, agrees_text, disagrees_text}
 use Rattle.cli_commands.specs.declared.status.Status.{Status}
 use Rattle.cli_commands.specs.declared.status.Status.TheVariants as status

@@ -1,6 +1,6 @@
 -- How the play of a generated script ends, and what it writes.
 use Rattle.std.specs.Prelude.{ℕ, ◌≡◌, List}
-use Rattle.play_maker.specs.Generated.{generated}
+use Rattle.play_script.specs.Generated.{generated}
 use Rattle.play_model.specs.Plays.{Play, mesh_of, ends_of}
 use Rattle.play_report.specs.Summary.{summary_text}
 use Rattle.cli_commands.specs.declared.status.Status.{Status}

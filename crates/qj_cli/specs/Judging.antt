@@ -2,7 +2,7 @@
 use Rattle.std.specs.Prelude.{ℕ, ◌≡◌, ◌<◌, ◌≤◌, List, length}
 use Rattle.report_judge.specs.declared.judgement.Finding.{Finding}
 use Rattle.play_report.specs.Limit.{longest_report}
-use Rattle.report_reading.specs.Reads.{IsLine}
+use Rattle.report_judge.specs.Reads.{IsLine}
 use Rattle.report_judge.specs.Judged.{OfAgreeing, OfDisagreeing, OfPlace, agrees_text, disagrees_text}
 use Rattle.cli_commands.specs.declared.status.Status.{Status}
 use Rattle.cli_commands.specs.declared.status.Status.TheVariants as status

@@ -1,8 +1,8 @@
 -- How a script whose nodes are mirrored ends, and what it writes.
 use Rattle.std.specs.Prelude.{ℕ, ◌≡◌, List, [], map}
-use Rattle.journal_mirror.specs.Logs.{MirroredBy}
-use Rattle.journal_mirror.specs.Mirrors.{lines_of}
-use Rattle.journal_mirror.specs.States.{told_at, mirror_of}
+use Rattle.writer_calls.specs.Logs.{MirroredBy}
+use Rattle.writer_calls.specs.Mirrors.{lines_of}
+use Rattle.writer_calls.specs.States.{told_at, mirror_of}
 use Rattle.mesh.specs.declared.whole.Mesh.{Mesh}
 use Rattle.mesh.specs.Order.{epoch_order}
 use Rattle.ns_tree.specs.declared.end.End.{End}

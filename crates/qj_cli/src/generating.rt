@@ -1,7 +1,7 @@
 //! What is due of a number, before any of it is written.
 ghost use Rattle.std.specs.Prelude.{◌≡◌, IfOk, IfErr};
 ghost use Rattle.play_report.specs.Summary.{summary_text};
-ghost use Rattle.play_maker.specs.Generated.{IsWithin};
+ghost use Rattle.play_script.specs.Generated.{IsWithin};
 ghost use Rattle.cli_commands.specs.Uses.{written_to};
 ghost use Rattle.qj_cli.specs.Generates.{IsSummary, GivesSummary, IsSummaryFault, Generates};
 
@@ -9,10 +9,9 @@ use crate::plays::play_soundly;
 use base_outside::Sink;
 use cli_commands::{CommandFault, Status, write_due};
 use journal_core::OutOfMemory;
-use play_maker::generate;
 use play_model::Played;
 use play_report::summary_of;
-use play_script::Script;
+use play_script::{Script, generate};
 use std::alloc::Global;
 use std::mem;
 

@@ -2,7 +2,7 @@
 ghost use Rattle.std.specs.Prelude.{◌≡◌, IfOk, IfErr, Some, map};
 ghost use Rattle.std.specs.List.{All};
 ghost use Rattle.journal_core.specs.Segments.{AreSound};
-ghost use Rattle.journal_mirror.specs.States.{IsTold};
+ghost use Rattle.writer_calls.specs.States.{IsTold};
 ghost use Rattle.play_model.specs.Plays.{states_after};
 ghost use Rattle.cli_commands.specs.Uses.{read_from, written_to};
 ghost use Rattle.qj_cli.specs.Plays.{IsReadingFault};
@@ -13,7 +13,6 @@ use crate::plays::play_leaving;
 use base_outside::{Sink, Source};
 use cli_commands::{CommandFault, Status, write_due};
 use journal_core::OutOfMemory;
-use journal_mirror::{MirroredNodes, mirror_nodes};
 use journal_step::PlainNode;
 use mesh::Mesh;
 use play_laws::finals_are_on_line;
@@ -21,6 +20,7 @@ use play_model::Played;
 use play_report::print_mirror;
 use std::alloc::Global;
 use std::mem;
+use writer_calls::{MirroredNodes, mirror_nodes};
 
 /// The segments of nodes without files stand by rising start, and their txids are within range.
 pub(crate) fn know_segments(nodes: &[PlainNode])

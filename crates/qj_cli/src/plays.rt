@@ -15,18 +15,16 @@ use journal_core::{CutNode, OutOfMemory};
 use journal_step::PlainNode;
 use mesh::epoch_order_is_a_run;
 use ns_tree::LastSpace;
-use play_actor::ScriptActor;
+use play_actor::{PlayedOn, ScriptActor, plain_nodes, play_on};
 use play_calls::Seats;
-use play_gates::Pass;
 use play_laws::{
     edits_have_one_result, epoch_order_is_safe, names_are_kept, results_tell_acknowledged,
 };
 use play_model::{
     Played, a_mesh_that_agrees_is_safe, a_play_agrees, a_play_follows, scripts_are_playable,
 };
-use play_order::{PlayedOn, plain_nodes, play_on};
 use play_script::{Script, ScriptLine};
-use play_threads::{Actors, act_alone, run_on};
+use play_threads::{Actors, Pass, act_alone, run_on};
 use run_safety::laws::every_run_keeps_its_parts;
 use std::alloc::Global;
 use std::sync::Wait;

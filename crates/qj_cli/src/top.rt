@@ -16,7 +16,7 @@ use base_outside::{Sink, Source};
 use cli_commands::{
     Command, CommandFault, Exit, check_files, list_file, read_command, serve_node, write_fault,
 };
-use play_gates::Pass;
+use play_threads::Pass;
 use std::alloc::Global;
 use std::sync::Wait;
 use std::thread::Threads;

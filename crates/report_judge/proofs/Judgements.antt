@@ -11,8 +11,8 @@ use Rattle.mesh_judge.specs.declared.part.Part.{Part}
 use Rattle.mesh_judge.specs.declared.part.Part.TheVariants as part
 use Rattle.mesh_judge.specs.Broken.{Keeps}
 use Rattle.mesh_judge.proofs.Broken.{kept}
-use Rattle.report_reading.specs.declared.answer.Lists.{Lists}
-use Rattle.report_reading.specs.Reads.{IsReportOf}
+use Rattle.report_judge.specs.declared.answer.Lists.{Lists}
+use Rattle.report_judge.specs.Reads.{IsReportOf}
 use Rattle.report_judge.specs.declared.judgement.Judgement.{Judgement}
 use Rattle.report_judge.specs.declared.judgement.Judgement.TheVariants as judgement
 use Rattle.report_judge.specs.Judged.{is_markless, marked_by, JudgesLists, Judges, Places}

@@ -1,3 +1,4 @@
+pub mod LineLaws
 pub mod FrontLaws
 pub mod PlaceLaws
 pub mod Judgements

@@ -9,8 +9,8 @@ use Rattle.mesh.specs.Order.{epoch_order}
 use Rattle.mesh_judge.specs.declared.part.Part.{Part}
 use Rattle.mesh_judge.specs.declared.part.Part.TheVariants as part
 use Rattle.mesh_judge.specs.Broken.{BreaksFirst}
-use Rattle.report_reading.specs.declared.answer.Lists.{Lists}
-use Rattle.report_reading.specs.Reads.{IsReportOf, IsLine}
+use Rattle.report_judge.specs.declared.answer.Lists.{Lists}
+use Rattle.report_judge.specs.Reads.{IsReportOf, IsLine}
 use Rattle.report_judge.specs.Places.{TellsPlace}
 use Rattle.report_judge.specs.declared.judgement.Finding.{Finding}
 use Rattle.report_judge.specs.declared.judgement.Judgement.{Judgement}
@@ -22,9 +22,9 @@ JudgesLists lists judgement.Agrees = Agrees lists.mesh
 JudgesLists lists (judgement.Disagrees found) = BreaksFirst found.part lists.mesh × TellsPlace lists found
 JudgesLists lists (judgement.Bad line rule) = ⊥
 
--- The bytes are the report of lists that agree. What moved the nodes of these lists, in the order of
--- the epochs, is a run of the journal world, and safe: an acknowledged edit survives, and finalised
--- segments agree.
+-- The bytes are the report of lists that agree. What moved the nodes of these lists, in the order
+-- of the epochs, is a run of the journal world, and safe: an acknowledged edit survives, and
+-- finalised segments agree.
 pub record OfAgreeing (bytes : List ℕ) : Type 0 where
   pub lists : Lists
   pub is_report : IsReportOf bytes lists
@@ -55,8 +55,8 @@ Judges bytes judgement.Agrees = OfAgreeing bytes
 Judges bytes (judgement.Disagrees found) = OfDisagreeing bytes found.part
 Judges bytes (judgement.Bad line rule) = IsLine bytes line
 
--- They are the report of lists of which this part is the first that doesn't hold, and the place that
--- is told is where.
+-- They are the report of lists of which this part is the first that doesn't hold, and the place
+-- that is told is where.
 pub record OfPlace (bytes : List ℕ) (found : Finding) : Type 0 where
   pub lists : Lists
   pub is_report : IsReportOf bytes lists

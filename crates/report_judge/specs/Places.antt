@@ -11,7 +11,8 @@ use Rattle.mesh_judge.specs.declared.part.Part.{Part}
 use Rattle.mesh_judge.specs.declared.part.Part.TheVariants as part
 use Rattle.ns_tree.specs.declared.end.LastSpace.{LastSpace}
 use Rattle.ns_tree.specs.declared.end.End.{End}
-use Rattle.report_reading.specs.declared.answer.Lists.{Lists}
+use Rattle.play_report.specs.Text.{caller_name}
+use Rattle.report_judge.specs.declared.answer.Lists.{Lists}
 use Rattle.report_judge.specs.declared.judgement.Finding.{Finding}
 use Rattle.report_judge.specs.declared.place.ListOf.{ListOf}
 use Rattle.report_judge.specs.declared.place.ListOf.TheVariants as list
@@ -71,15 +72,10 @@ abbrev pub lines_above : Lists → ListOf → ℕ
 lines_above lists (list.Node i) = node_lines (take i lists.mesh.histories) + 2
 lines_above lists (list.Caller c) = node_lines lists.mesh.histories + caller_lines lists.ends (take c lists.mesh.records) + 2
 
--- an actor's name; one that no actor is is the operator
-abbrev pub named : Option End → List ℕ
-named (Some end) = end.name
-named None = codes "ops"
-
 -- the words that a report has above a list
 abbrev pub list_words : Lists → ListOf → List ℕ
 list_words lists (list.Node i) = codes "node " ++ decimal (saturated (i + 1))
-list_words lists (list.Caller c) = codes "actor " ++ named (slice_get lists.ends c)
+list_words lists (list.Caller c) = codes "actor " ++ caller_name lists.ends c
 
 -- what is told is the place, by the words of its list and by its line in the report
 pub record TellsPlace (lists : Lists) (found : Finding) : Type 0 where

@@ -2,14 +2,14 @@
 
 use crate::place::{ListOf, Place};
 use journal_core::OutOfMemory;
-use journal_history::{HistoryLine, Record, RecordList};
+use journal_history::{ListedLine, ListedRecord, RecordList};
 use mesh::Mesh;
 use mesh_judge::{is_same, node_reached};
 use std::alloc::Global;
 
 /// The index of the next line, from this one on, that reached the node, or how many lines there
 /// are.
-fn next_reaching(lines: &[Record], node: usize, from: usize) -> usize {
+fn next_reaching(lines: &[ListedRecord], node: usize, from: usize) -> usize {
     for index in from..lines.len() {
         if node_reached(&lines[index]) == Some(node) {
             return index;
@@ -19,8 +19,8 @@ fn next_reaching(lines: &[Record], node: usize, from: usize) -> usize {
 }
 
 /// Whether the caller's next line to the node is the node's; then it is passed.
-fn takes(records: &[RecordList], taken: &mut [usize], node: usize, line: &HistoryLine) -> bool {
-    let caller = line.caller as usize;
+fn takes(records: &[RecordList], taken: &mut [usize], node: usize, line: &ListedLine) -> bool {
+    let caller = line.caller() as usize;
     let Some(record) = records.get(caller) else {
         return false;
     };
@@ -40,7 +40,7 @@ fn first_untold(
     records: &[RecordList],
     taken: &mut [usize],
     node: usize,
-    history: &[HistoryLine],
+    history: &[ListedLine],
 ) -> Option<usize> {
     for (index, line) in history.iter().enumerate() {
         if !takes(records, taken, node, line) {

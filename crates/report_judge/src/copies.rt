@@ -1,27 +1,27 @@
 //! A late copy of no call before it.
 use crate::place::{ListOf, Place};
 use journal_core::OutOfMemory;
-use journal_history::Record;
+use journal_history::{LentRecord, ListedRecord, Told};
 use mesh::Mesh;
 use mesh_judge::key_of;
 use std::alloc::Global;
 use std::collections::BTreeMap;
 
 /// The first line that is a late copy of no call before it.
-fn first_uncalled(alloc: Global, lines: &[Record]) -> Result<Option<usize>, OutOfMemory> {
+fn first_uncalled(alloc: Global, lines: &[ListedRecord]) -> Result<Option<usize>, OutOfMemory> {
     let mut asked = BTreeMap::new(alloc);
     for (index, line) in lines.iter().enumerate() {
-        match line {
-            Record::Call { node, request, .. } => {
-                asked.insert(key_of(alloc, *node, request.get())?, index)?;
+        match line.lend(&Told::OK) {
+            LentRecord::Call { node, request, .. } => {
+                asked.insert(key_of(alloc, node, request.get())?, index)?;
             }
-            Record::Late { node, request } => {
-                let key = key_of(alloc, *node, request.get())?;
+            LentRecord::Late { node, request } => {
+                let key = key_of(alloc, node, request.get())?;
                 if asked.get(key.as_slice()).is_none() {
                     return Ok(Some(index));
                 }
             }
-            Record::Operator { .. } | Record::Outcome { .. } => {}
+            LentRecord::Operator { .. } | LentRecord::Outcome { .. } => {}
         }
     }
     Ok(None)

@@ -7,7 +7,7 @@ ghost use Rattle.report_judge.specs.Places.{KeepsUpTo, AreOf, IsBrokenAt};
 
 use crate::place::{ListOf, Place};
 use journal_core::OutOfMemory;
-use journal_history::{HistoryLine, Record, RecordList};
+use journal_history::{ListedLine, ListedRecord, RecordList};
 use mesh::Mesh;
 use mesh_judge::{are_operators, are_within, is_local_run, is_of_chores};
 use std::alloc::Global;
@@ -32,7 +32,7 @@ fn middle(low: usize, high: usize) -> usize
 
 /// How many of the first lines one node answers so, of lines that none does.
 #[tactic(auto, using(crate::proofs::FrontLaws::goes_up, crate::proofs::FrontLaws::goes_down, crate::proofs::FrontLaws::ends))]
-fn local_lines(alloc: Global, lines: &[HistoryLine]) -> Result<usize, OutOfMemory>
+fn local_lines(alloc: Global, lines: &[ListedLine]) -> Result<usize, OutOfMemory>
     requires { IsLocalRun fresh_cell lines.now → ⊥ }
     ensures { IfOk result (λ kept. KeepsUpTo (IsLocalRun fresh_cell) lines.now kept) }
 {
@@ -54,7 +54,7 @@ fn are_of(
     alloc: Global,
     caller: Caller,
     nodes: usize,
-    lines: &[Record],
+    lines: &[ListedRecord],
 ) -> Result<bool, OutOfMemory>
     ensures { IfOk result (λ are_of. Decides are_of (AreOf caller nodes lines.now)) }
 {
@@ -75,7 +75,7 @@ fn made_lines(
     alloc: Global,
     caller: Caller,
     nodes: usize,
-    lines: &[Record],
+    lines: &[ListedRecord],
 ) -> Result<usize, OutOfMemory>
     requires { AreOf caller nodes lines.now → ⊥ }
     ensures { IfOk result (λ kept. KeepsUpTo (AreOf caller nodes) lines.now kept) }
@@ -110,7 +110,7 @@ pub(crate) fn foreign_line(alloc: Global, mesh: &Mesh) -> Result<Option<Place>, 
 }
 
 /// The lines of a caller; none of one that isn't there.
-fn lines_of(records: &[RecordList], caller: usize) -> &[Record]
+fn lines_of(records: &[RecordList], caller: usize) -> &[ListedRecord]
     ensures { result.now ≡ slice_index_or records.now caller [] }
 {
     match records.get(caller) {

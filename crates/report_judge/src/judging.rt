@@ -2,12 +2,13 @@
 ghost use Rattle.std.specs.Prelude.{IfOk};
 ghost use Rattle.report_judge.specs.Judged.{JudgesLists, Judges, Places};
 
+use crate::answer::{Lists, Reading};
 use crate::judgement::Judgement;
 use crate::place::finding_of;
+use crate::whole::read_report;
 use journal_core::OutOfMemory;
 use mesh::{epoch_order_is_a_run, epoch_order_is_safe};
 use mesh_judge::broken_part;
-use report_reading::{Lists, Reading, read_report};
 use std::alloc::Global;
 
 /// What the lists of a report are judged.
@@ -23,8 +24,8 @@ fn judge_lists(alloc: Global, lists: &Lists) -> Result<Judgement, OutOfMemory>
 /// Judges a report: whether it is that of lists that agree, with the marks that its records tell,
 /// of lists that don't, with the first part that they break and where, or none, with the first line
 /// that breaks a rule. What its result lines claim isn't judged, and neither is what positions and
-/// rows tell. `OutOfMemory` where there isn't memory for the lists, for their text, or to judge
-/// them.
+/// rows tell. `OutOfMemory` where there isn't memory for the lists, for the texts of their
+/// requests, or to judge them.
 #[tactic(auto, using(crate::proofs::Judgements::judged, crate::proofs::Judgements::placed))]
 pub fn judge(alloc: Global, bytes: &[u8]) -> Result<Judgement, OutOfMemory>
     ensures judged { IfOk result (λ j. Judges bytes.now j) }

@@ -2,8 +2,9 @@
 ghost use Rattle.std.specs.Prelude.{◌≡◌, IfOk, MatchOption, slice_get};
 ghost use Rattle.mesh_judge.specs.Broken.{Breaks};
 ghost use Rattle.report_judge.specs.declared.place.ListOf.TheVariants as listed;
-ghost use Rattle.report_judge.specs.Places.{IsBrokenAt, TellsPlace, list_words, named, saturated, node_lines, space_lines, caller_lines, lines_above};
+ghost use Rattle.report_judge.specs.Places.{IsBrokenAt, TellsPlace, list_words, saturated, node_lines, space_lines, caller_lines, lines_above};
 
+use crate::answer::Lists;
 use crate::calls::unlike_line;
 use crate::copies::uncalled_copy;
 use crate::fronts::{foreign_line, strange_line, unmade_line};
@@ -14,7 +15,7 @@ use journal_history::{HistoryList, RecordList};
 use mesh::Mesh;
 use mesh_judge::Part;
 use ns_tree::End;
-use report_reading::Lists;
+use play_report::caller_name;
 use std::alloc::Global;
 
 /// A list, by its index from 0.
@@ -109,16 +110,6 @@ fn lines_above(lists: &Lists, list: ListOf) -> u64
     above.saturating_add(2)
 }
 
-/// The name of a caller; one that no actor is is the operator.
-fn name_of(ends: &[End], caller: usize) -> &[u8]
-    ensures { result.now ≡ named (slice_get ends.now caller) }
-{
-    match ends.get(caller) {
-        Some(end) => end.name.as_slice(),
-        None => b"ops",
-    }
-}
-
 /// The words that a report has above a list.
 fn words_of(alloc: Global, lists: &Lists, list: ListOf) -> Result<Name, OutOfMemory>
     ensures { IfOk result (λ words. words ≡ list_words lists.now list) }
@@ -131,7 +122,7 @@ fn words_of(alloc: Global, lists: &Lists, list: ListOf) -> Result<Name, OutOfMem
         }
         ListOf::Caller(caller) => {
             words.extend_from_slice(b"actor ")?;
-            words.extend_from_slice(name_of(lists.ends.as_slice(), caller))?;
+            words.extend_from_slice(caller_name(lists.ends.as_slice(), caller))?;
         }
     }
     Name::from_slice(alloc, words.as_slice())

@@ -11,7 +11,7 @@ ghost use Rattle.writer_core.specs.Writer.{next_call, is_under_way, writer_stopp
 use crate::actor::Actor;
 use crate::seen::Seen;
 use journal_core::{CutNode, Heard, OutOfMemory, Request, SharedRequest};
-use journal_history::{HistoryLine, NodeAnswer, NodeAsk, NodeCell, SharedStop, cells_of};
+use journal_history::{ListedLine, NodeAnswer, NodeAsk, NodeCell, SharedStop, cells_of};
 use journal_step::PlainNode;
 use run_safety::{Event, Fate};
 use std::alloc::Global;
@@ -161,7 +161,7 @@ impl<N: CutNode> World<N> {
     }
 
     /// What a node, counted from 1, has listed.
-    pub fn history(&self, node: usize) -> &[HistoryLine]
+    pub fn history(&self, node: usize) -> &[ListedLine]
         requires { IsWithin (length self.now.cells) node }
         ensures { result.now ≡ (view_at node self.now.cells).history }
     {

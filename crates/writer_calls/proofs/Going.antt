@@ -78,6 +78,14 @@ goes_more begun before mid after t old new u h c own aim nodes = record {
   nodes = nodes ∙ h.nodes;
 }
 
+-- and one call more, of which the peers were told
+pub goes_told : (begun : WriterView) (before mid told after : List PeerCall) (t : Turn) (old same new : WriterView) (u : Turn)
+    → Goes begun before old mid t → same ≡ old → told ≡ mid → IsCalled same told new after u → IsTurnOf same.aim new.phase u → new.aim ≡ same.aim → nodes_of new ≡ nodes_of same
+    → Goes begun before new after u
+goes_told begun before mid told after t old same new u h e f c own aim nodes =
+    goes_more begun before told after t same new u
+    (subst (λ (w : WriterView). Goes begun before w told t) (sym e) (subst (λ (calls : List PeerCall). Goes begun before old calls t) (sym f) h)) c own aim nodes
+
 -- a round is under way while there are more calls to make
 pub under_way : (a : Aim) (p : Phase) (t : Turn) → IsTurnOf a p t → has_more_calls t ≡ true → IsInRound p
 under_way a p turn.Going h e = h

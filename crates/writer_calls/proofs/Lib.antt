@@ -3,3 +3,14 @@ pub mod Comes
 pub mod StepLaws
 pub mod WriterEnds
 pub mod TaskBegins
+pub mod CallLists
+pub mod Heard
+pub mod Holding
+pub mod Taking
+pub mod Passing
+pub mod SyncLaws
+pub mod Manifests
+pub mod Steady
+pub mod SteadyPass
+pub mod HoldLaws
+pub mod SteadyLaws

@@ -3,3 +3,13 @@ pub mod Ready
 pub mod Tasks
 pub mod Answers
 pub mod PlainPeersView
+pub mod Told
+pub mod Fetching
+pub mod Logs
+pub mod Mirrors
+pub mod Passing
+pub mod HeldOrMissing
+pub mod Directs
+pub mod DirectLaws
+pub mod States
+pub mod Examples

@@ -124,6 +124,33 @@ impl QuorumWriter {
         self.writer.room()
     }
 
+    /// Tells the peers which calls the round under way makes, once a round, where they make use of
+    /// that; a call that is its round's only one isn't told of. How many calls from the next on the
+    /// peers know of; `ahead` is how many they knew of.
+    fn tell_ahead<P: Peers>(
+        &mut self,
+        alloc: Global,
+        peers: &mut P,
+        ahead: usize,
+    ) -> Result<usize, OutOfMemory>
+        ensures same { self.new ≡ self.old }
+        ensures unlisted { P.calls peers.new ≡ P.calls peers.old }
+        ensures peers { P.nodes peers.new ≡ P.nodes peers.old }
+        ensures called { OnOk result (P.called peers.old peers.new) }
+    {
+        if ahead > 0 || !peers.has_ahead() {
+            return Ok(ahead);
+        }
+        let Some(calls) = self.writer.round(alloc)? else {
+            return Ok(0);
+        };
+        let nodes = calls.nodes();
+        if nodes.len() > 1 {
+            peers.announce(alloc, nodes, calls.request())?;
+        }
+        Ok(nodes.len())
+    }
+
     /// Makes the writer's next call, and lets it hear what was heard.
     fn call_next<P: Peers>(&mut self, alloc: Global, peers: &mut P) -> Result<Turn, OutOfMemory>
         requires under_way { IsInRound self.old.phase }
@@ -158,7 +185,9 @@ impl QuorumWriter {
         ensures called { OnOk result (P.called peers.old peers.new) }
     {
         let mut turn = Turn::Going;
+        let mut ahead = 0;
         while has_more_calls(turn) {
+            ahead = self.tell_ahead(alloc, peers, ahead)?.saturating_sub(1);
             turn = self.call_next(alloc, peers)?;
         }
         Ok(turn)

@@ -2,7 +2,7 @@
 ghost use Rattle.std.specs.Prelude.{◌≡◌, ◌||◌, [], ◌∷◌, ◌+◌, Some, IfOk, length, nat_lt};
 ghost use Rattle.std.specs.List.{list_any};
 ghost use Rattle.std.specs.Result.{result_err};
-ghost use Rattle.ns_path.specs.Path.{same_text};
+ghost use Rattle.ns_tree.specs.Path.{same_text};
 ghost use Rattle.ns_tree.specs.Space.{find};
 ghost use Rattle.ns_edits.specs.Admit.{first, refused_if, refused_open, blocks_of, blocks_at, bad_paths, admit_part, admit_sources, admit_concat};
 

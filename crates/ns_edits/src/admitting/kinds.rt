@@ -9,8 +9,7 @@ use crate::admitting::words::{
     check_replication, refuse_if,
 };
 use crate::refusal::AdmitRefusal;
-use ns_path::is_root_path;
-use ns_tree::{Inode, Namespace};
+use ns_tree::{Inode, Namespace, is_root_path};
 
 pub(crate) fn check_add(
     namespace: &Namespace,

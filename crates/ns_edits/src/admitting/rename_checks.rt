@@ -9,8 +9,7 @@ use crate::admitting::walks::{check_absent, check_parent, found};
 use crate::admitting::words::{check_path, refuse_if};
 use crate::refusal::AdmitRefusal;
 use arrayvec::ArrayVec;
-use ns_path::{is_root_path, lies_at_or_under, stem_of};
-use ns_tree::{Inode, Namespace};
+use ns_tree::{Inode, Namespace, is_root_path, lies_at_or_under, stem_of};
 
 const MOST_PATH: usize = 1000;
 

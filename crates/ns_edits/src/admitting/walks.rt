@@ -1,13 +1,12 @@
 //! Walks from the root: whether a path is there, and whether its parent is.
 ghost use Rattle.std.specs.Prelude.{◌≡◌, [], IfOk, Some};
 ghost use Rattle.std.specs.Result.{result_err};
-ghost use Rattle.ns_path.specs.Path.{stem, path_of_stem};
+ghost use Rattle.ns_tree.specs.Path.{stem, path_of_stem};
 ghost use Rattle.ns_tree.specs.Space.{find};
 ghost use Rattle.ns_edits.specs.Admit.{ancestor, ancestors, finds, has_parent, refused_there, refused_dir, refused_file};
 
 use crate::refusal::AdmitRefusal;
-use ns_path::{is_root_path, parent, path_of, stem_of};
-use ns_tree::{Inode, Namespace};
+use ns_tree::{Inode, Namespace, is_root_path, parent, path_of, stem_of};
 
 /// What is at a path. Where nothing is, the walk from the root says why; where something is, all
 /// directories above it are there, and no walk is needed.

@@ -4,7 +4,7 @@ ghost use Rattle.std.specs.Result.{result_err};
 ghost use Rattle.ns_edits.specs.Admit.{refused_if, bad_path, bad_owner, bad_new_owner, bad_permission, bad_replication, bad_block_size};
 
 use crate::refusal::AdmitRefusal;
-use ns_path::{is_good_owner, is_good_path};
+use ns_tree::{is_good_owner, is_good_path};
 
 const MOST_PERMISSION: u16 = 0o1777;
 

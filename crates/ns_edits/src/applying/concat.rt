@@ -10,8 +10,7 @@ ghost use Rattle.ns_edits.specs.Apply.{with_all_blocks, AreSources, concat_of, w
 use crate::applying::inodes::put_all_blocks;
 use base_words::{Name, OutOfMemory};
 use edit_ops::{NameList, NumberList, Op};
-use ns_path::parent;
-use ns_tree::{Inode, Namespace};
+use ns_tree::{Inode, Namespace, parent};
 use std::alloc::Global;
 
 /// Puts the blocks of the sources after those of the target, in order, and takes the sources away.

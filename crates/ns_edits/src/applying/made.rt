@@ -8,8 +8,7 @@ ghost use Rattle.ns_edits.specs.Apply.{add_of, mkdir_of, delete_of};
 
 use base_words::{Name, OutOfMemory};
 use edit_ops::{NumberList, Op};
-use ns_path::parent;
-use ns_tree::{Inode, Namespace};
+use ns_tree::{Inode, Namespace, parent};
 use std::alloc::Global;
 
 /// Makes an empty file, under construction, and raises the mtime of its parent.

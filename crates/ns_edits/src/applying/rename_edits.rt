@@ -9,8 +9,7 @@ ghost use Rattle.ns_edits.specs.Apply.{move_of};
 use crate::admitting::rename_checks::target_of;
 use base_words::OutOfMemory;
 use edit_ops::Op;
-use ns_path::parent;
-use ns_tree::Namespace;
+use ns_tree::{Namespace, parent};
 use std::alloc::Global;
 
 /// Moves a path with all under it into a directory that is there, or else to the other path, and

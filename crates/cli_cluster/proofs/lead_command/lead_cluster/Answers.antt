@@ -6,5 +6,6 @@ pub returns : goal.returns
 returns g c =
     leads_cluster c.lead-end.result c.args.nodes c.args.life (read_from g.I.Source.left g.I.Source.faults c.args.source.now c.lead-end.new.source)
     (written_to g.P.Sink.taken g.P.Sink.faults g.P.Sink.kept_back c.args.sink.now c.end_lead.new.sink) (g.P.Sink.taken c.lead-end.new.sink) (g.P.Sink.faults c.lead-end.new.sink)
-    (g.P.Sink.kept_back c.lead-end.new.sink) c.end_lead.result c.end_lead.ensures c.lead-end.ensures.led c.lead-end.ensures.made c.lead-end.ensures.piped c.lead-end.ensures.read_fault
+    (g.P.Sink.kept_back c.lead-end.new.sink) c.end_lead.result c.end_lead.ensures c.lead-end.ensures.led c.lead-end.ensures.made c.lead-end.ensures.piped c.lead-end.ensures.resting
+    c.lead-end.ensures.read_fault
     c.lead-end.ensures.no_read_fault c.lead-end.ensures.write_fault c.lead-end.ensures.no_write_fault c.lead-end.ensures.handed

@@ -1,6 +1,6 @@
 use Rattle.std.proofs.Common.{◌≡◌, ℕ, ◌+◌, map, take, Err, sym, ap, subst, arith}
 use Rattle.edit_ops.specs.declared.field_fault.ReadError.{ReadError}
-use Rattle.edit_json.specs.declared.bad_object.BadObject.{BadObject}
+use Rattle.list_back.specs.declared.bad_object.BadObject.{BadObject}
 use Rattle.serde_json.specs.View.{view}
 use Rattle.list_back.specs.Entries.{IsReadBody}
 use Rattle.list_back.specs.Backs.{HasBadEntry}

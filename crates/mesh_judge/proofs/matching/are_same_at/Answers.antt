@@ -17,7 +17,7 @@ index-number-requires c =
     let is : c.line-item.result ≡ get_or (history_at c.args.mesh.now c.args.index) c.loop-line.line-index c.line-item.result =
     c.line-item.is ∙ ap (λ (hs : List HistoryLine). get_or hs c.loop-line.line-index c.line-item.result) lines in
     let known = caller_within (operator_of c.args.mesh.now) c.loop-line.line-index (history_at c.args.mesh.now c.args.index) c.line-item.result c.requires.callers l is in
-    omega (arith, known, c.loop-line.invariant.size, c.loop-line.taken.ok.0)
+    omega (arith, known, c.loop-line.invariant.size, c.loop-line.taken.ok.0, c.caller-caller.ensures)
 
 pub bounds-records-caller : goal.bounds-records-caller
 bounds-records-caller c =
@@ -27,7 +27,7 @@ bounds-records-caller c =
     let is : c.line-item.result ≡ get_or (history_at c.args.mesh.now c.args.index) c.loop-line.line-index c.line-item.result =
     c.line-item.is ∙ ap (λ (hs : List HistoryLine). get_or hs c.loop-line.line-index c.line-item.result) lines in
     let known = caller_within (operator_of c.args.mesh.now) c.loop-line.line-index (history_at c.args.mesh.now c.args.index) c.line-item.result c.requires.callers l is in
-    omega (arith, known, c.requires.sized.records, ap length c.as_slice-records.ensures)
+    omega (arith, known, c.requires.sized.records, ap length c.as_slice-records.ensures, c.caller-caller.ensures)
 
 pub bounds-tables-caller : goal.bounds-tables-caller
 bounds-tables-caller c =
@@ -37,7 +37,7 @@ bounds-tables-caller c =
     let is : c.line-item.result ≡ get_or (history_at c.args.mesh.now c.args.index) c.loop-line.line-index c.line-item.result =
     c.line-item.is ∙ ap (λ (hs : List HistoryLine). get_or hs c.loop-line.line-index c.line-item.result) lines in
     let known = caller_within (operator_of c.args.mesh.now) c.loop-line.line-index (history_at c.args.mesh.now c.args.index) c.line-item.result c.requires.callers l is in
-    omega (arith, known, c.requires.known.count, c.requires.sized.records)
+    omega (arith, known, c.requires.known.count, c.requires.sized.records, c.caller-caller.ensures)
 
 pub is_next-requires-clause-known : goal.is_next-requires-clause-known
 is_next-requires-clause-known c =
@@ -47,11 +47,11 @@ is_next-requires-clause-known c =
     let is : c.line-item.result ≡ get_or (history_at c.args.mesh.now c.args.index) c.loop-line.line-index c.line-item.result =
     c.line-item.is ∙ ap (λ (hs : List HistoryLine). get_or hs c.loop-line.line-index c.line-item.result) lines in
     let known = caller_within (operator_of c.args.mesh.now) c.loop-line.line-index (history_at c.args.mesh.now c.args.index) c.line-item.result c.requires.callers l is in
-    let recorded = record_is c.args.mesh.now c.line-item.result.caller c.as_slice-records.result.now c.index-records-caller.result
-    c.as_slice-in-loop-line.result.now (omega (arith, known, c.requires.sized.records)) c.as_slice-records.ensures c.index-records-caller.is
+    let recorded = record_is c.args.mesh.now c.caller-caller.result c.as_slice-records.result.now c.index-records-caller.result
+    c.as_slice-in-loop-line.result.now (omega (arith, known, c.requires.sized.records, c.caller-caller.ensures)) c.as_slice-records.ensures c.index-records-caller.is
     c.as_slice-in-loop-line.ensures in
-    table_known c.args.mesh.now c.line-item.result.caller c.args.tables.now c.index-tables-caller.result c.as_slice-in-loop-line.result.now
-    c.requires.known (omega (arith, known, c.requires.sized.records)) c.index-tables-caller.is recorded
+    table_known c.args.mesh.now c.caller-caller.result c.args.tables.now c.index-tables-caller.result c.as_slice-in-loop-line.result.now
+    c.requires.known (omega (arith, known, c.requires.sized.records, c.caller-caller.ensures)) c.index-tables-caller.is recorded
 
 pub is_next-requires-clause-node : goal.is_next-requires-clause-node
 is_next-requires-clause-node c =
@@ -64,8 +64,8 @@ is_next-requires-clause-node c =
     omega (
       arith,
       c.requires.node,
-      table_size c.args.mesh.now c.line-item.result.caller c.args.tables.now c.index-tables-caller.result
-          c.requires.known (omega (arith, known, c.requires.sized.records)) c.index-tables-caller.is,
+      table_size c.args.mesh.now c.caller-caller.result c.args.tables.now c.index-tables-caller.result
+          c.requires.known (omega (arith, known, c.requires.sized.records, c.caller-caller.ensures)) c.index-tables-caller.is,
     )
 
 pub returns-then-not-is_next : goal.returns-then-not-is_next
@@ -77,13 +77,14 @@ returns-then-not-is_next c =
     c.line-item.is ∙ ap (λ (hs : List HistoryLine). get_or hs c.loop-line.line-index c.line-item.result) lines in
     let known = caller_within (operator_of c.args.mesh.now) c.loop-line.line-index (history_at c.args.mesh.now c.args.index) c.line-item.result c.requires.callers l is in
     let numbered : c.index-number.result.now ≡ get_or c.loop-line.taken.items c.line-item.result.caller 0 =
-    c.index-number.ensures ∙ get_or_default c.loop-line.taken.items c.line-item.result.caller c.index-number.result.now 0 (omega (arith, known, c.loop-line.invariant.size)) in
-    let recorded = record_is c.args.mesh.now c.line-item.result.caller c.as_slice-records.result.now c.index-records-caller.result
-    c.as_slice-in-loop-line.result.now (omega (arith, known, c.requires.sized.records)) c.as_slice-records.ensures c.index-records-caller.is
+    c.index-number.ensures ∙ get_or_default c.loop-line.taken.items c.caller-caller.result c.index-number.result.now 0 (omega (arith, known, c.loop-line.invariant.size, c.caller-caller.ensures))
+    ∙ ap (λ k. get_or c.loop-line.taken.items k 0) c.caller-caller.ensures in
+    let recorded = record_is c.args.mesh.now c.caller-caller.result c.as_slice-records.result.now c.index-records-caller.result
+    c.as_slice-in-loop-line.result.now (omega (arith, known, c.requires.sized.records, c.caller-caller.ensures)) c.as_slice-records.ensures c.index-records-caller.is
     c.as_slice-in-loop-line.ensures in
     let next : Decides c.is_next.result (IsNext (reached (c.args.index + 1) (record_of c.args.mesh.now c.line-item.result.caller))
     (get_or c.loop-line.taken.items c.line-item.result.caller 0) c.line-item.result) =
-    subst₂ (λ rs n. Decides c.is_next.result (IsNext (reached (c.args.index + 1) rs) n c.line-item.result)) recorded numbered c.is_next.ensures in
+    subst₂ (λ rs n. Decides c.is_next.result (IsNext (reached (c.args.index + 1) rs) n c.line-item.result)) (recorded ∙ ap (record_of c.args.mesh.now) c.caller-caller.ensures) numbered c.is_next.ensures in
     no (AreSameAt c.args.mesh.now c.args.index)
     (walk_fails c.args.mesh.now c.args.index c.loop-line.taken.items c.loop-line.line-index c.line-item.result l is known
     (fails (IsNext (reached (c.args.index + 1) (record_of c.args.mesh.now c.line-item.result.caller))
@@ -99,7 +100,8 @@ overflow_add-number c =
     c.line-item.is ∙ ap (λ (hs : List HistoryLine). get_or hs c.loop-line.line-index c.line-item.result) lines in
     let known = caller_within (operator_of c.args.mesh.now) c.loop-line.line-index (history_at c.args.mesh.now c.args.index) c.line-item.result c.requires.callers l is in
     let numbered : c.index-number.result.now ≡ get_or c.loop-line.taken.items c.line-item.result.caller 0 =
-    c.index-number.ensures ∙ get_or_default c.loop-line.taken.items c.line-item.result.caller c.index-number.result.now 0 (omega (arith, known, c.loop-line.invariant.size)) in
+    c.index-number.ensures ∙ get_or_default c.loop-line.taken.items c.caller-caller.result c.index-number.result.now 0 (omega (arith, known, c.loop-line.invariant.size, c.caller-caller.ensures))
+    ∙ ap (λ k. get_or c.loop-line.taken.items k 0) c.caller-caller.ensures in
     omega (arith, numbered, c.loop-line.invariant.few c.line-item.result.caller, c.loop-line-test.true, c.as_slice-line-items.type_inv.0)
 
 pub index_mut-requires : goal.index_mut-requires
@@ -110,7 +112,7 @@ index_mut-requires c =
     let is : c.line-item.result ≡ get_or (history_at c.args.mesh.now c.args.index) c.loop-line.line-index c.line-item.result =
     c.line-item.is ∙ ap (λ (hs : List HistoryLine). get_or hs c.loop-line.line-index c.line-item.result) lines in
     let known = caller_within (operator_of c.args.mesh.now) c.loop-line.line-index (history_at c.args.mesh.now c.args.index) c.line-item.result c.requires.callers l is in
-    omega (arith, known, c.loop-line.invariant.size, c.loop-line.taken.ok.0)
+    omega (arith, known, c.loop-line.invariant.size, c.loop-line.taken.ok.0, c.caller-caller.ensures)
 
 pub loop-line-preserved : goal.loop-line-preserved
 loop-line-preserved c =
@@ -121,14 +123,15 @@ loop-line-preserved c =
     c.line-item.is ∙ ap (λ (hs : List HistoryLine). get_or hs c.loop-line.line-index c.line-item.result) lines in
     let known = caller_within (operator_of c.args.mesh.now) c.loop-line.line-index (history_at c.args.mesh.now c.args.index) c.line-item.result c.requires.callers l is in
     let numbered : c.index-number.result.now ≡ get_or c.loop-line.taken.items c.line-item.result.caller 0 =
-    c.index-number.ensures ∙ get_or_default c.loop-line.taken.items c.line-item.result.caller c.index-number.result.now 0 (omega (arith, known, c.loop-line.invariant.size)) in
-    let recorded = record_is c.args.mesh.now c.line-item.result.caller c.as_slice-records.result.now c.index-records-caller.result
-    c.as_slice-in-loop-line.result.now (omega (arith, known, c.requires.sized.records)) c.as_slice-records.ensures c.index-records-caller.is
+    c.index-number.ensures ∙ get_or_default c.loop-line.taken.items c.caller-caller.result c.index-number.result.now 0 (omega (arith, known, c.loop-line.invariant.size, c.caller-caller.ensures))
+    ∙ ap (λ k. get_or c.loop-line.taken.items k 0) c.caller-caller.ensures in
+    let recorded = record_is c.args.mesh.now c.caller-caller.result c.as_slice-records.result.now c.index-records-caller.result
+    c.as_slice-in-loop-line.result.now (omega (arith, known, c.requires.sized.records, c.caller-caller.ensures)) c.as_slice-records.ensures c.index-records-caller.is
     c.as_slice-in-loop-line.ensures in
     let next : Decides c.is_next.result (IsNext (reached (c.args.index + 1) (record_of c.args.mesh.now c.line-item.result.caller))
     (get_or c.loop-line.taken.items c.line-item.result.caller 0) c.line-item.result) =
-    subst₂ (λ rs n. Decides c.is_next.result (IsNext (reached (c.args.index + 1) rs) n c.line-item.result)) recorded numbered c.is_next.ensures in
-    subst (λ n. Walk c.args.mesh.now c.args.index (set c.loop-line.taken.items c.line-item.result.caller (n + 1)) (c.loop-line.line-index + 1)) (sym numbered)
+    subst₂ (λ rs n. Decides c.is_next.result (IsNext (reached (c.args.index + 1) rs) n c.line-item.result)) (recorded ∙ ap (record_of c.args.mesh.now) c.caller-caller.ensures) numbered c.is_next.ensures in
+    subst₂ (λ k n. Walk c.args.mesh.now c.args.index (set c.loop-line.taken.items k (n + 1)) (c.loop-line.line-index + 1)) (sym c.caller-caller.ensures) (sym numbered)
     (walk_more c.args.mesh.now c.args.index c.loop-line.taken.items c.loop-line.line-index c.line-item.result l is known
     (holds (IsNext (reached (c.args.index + 1) (record_of c.args.mesh.now c.line-item.result.caller))
     (get_or c.loop-line.taken.items c.line-item.result.caller 0) c.line-item.result) c.is_next.result c.if-not-is_next.false next)

@@ -1,21 +1,26 @@
-use Rattle.std.proofs.Common.{◌≡◌, ◌<◌, List, length, get_or, arith, ap, sym, ◌∙◌}
+use Rattle.std.proofs.Common.{◌≡◌, ◌<◌, ◌+◌, List, length, get_or, set, subst, arith, ap, sym, ◌∙◌}
 use Rattle.std.proofs.lemmas.List.{get_or_default}
 use Rattle.journal_history.specs.declared.history_line.HistoryLine.{HistoryLine}
 use Rattle.mesh.specs.Agree.{history_at}
-use Rattle.mesh_judge.proofs.Walking.{lines_are, caller_known, nodes_reached, number_reached, number_small, walk_begins, walk_stays, walk_moves, walk_ends}
+use Rattle.mesh_judge.proofs.Walking.{Walked, lines_are, caller_known, nodes_reached, number_reached, number_small, walk_begins, walk_stays, walk_moves, walk_ends}
 use Rattle.mesh_judge.proofs.ranking.rank_history.Goals as goal
 
 pub loop-line-init : goal.loop-line-init
 loop-line-init c = walk_begins c.args.mesh.now c.args.callers.now c.args.index c.args.ranked.now.items c.in_ok-taken.taken.items c.in_ok-taken.ensures
 
-pub bounds-callers-line : goal.bounds-callers-line
-bounds-callers-line c =
+pub bounds-callers-place : goal.bounds-callers-place
+bounds-callers-place c =
     let lines = lines_are c.args.mesh.now c.args.index c.as_slice.result.now c.index-as_slice-index.result c.as_slice-line-items.result.now
     c.requires.node c.requires.agrees.histories c.as_slice.ensures c.index-as_slice-index.is c.as_slice-line-items.ensures in
     let l : c.loop-line.line-index < length (history_at c.args.mesh.now c.args.index) = omega (arith, c.loop-line-test.true, ap length lines) in
     let is : c.line-item.result ≡ get_or (history_at c.args.mesh.now c.args.index) c.loop-line.line-index c.line-item.result =
     c.line-item.is ∙ ap (λ (hs : List HistoryLine). get_or hs c.loop-line.line-index c.line-item.result) lines in
-    caller_known c.args.mesh.now c.args.callers.now c.args.index c.loop-line.line-index c.line-item.result c.requires.agrees c.requires.known c.requires.node l is
+    omega (
+      arith,
+      caller_known c.args.mesh.now c.args.callers.now c.args.index c.loop-line.line-index c.line-item.result c.requires.agrees
+          c.requires.known c.requires.node l is,
+      c.caller-place.ensures,
+    )
 
 pub index-number-requires : goal.index-number-requires
 index-number-requires c =
@@ -30,6 +35,7 @@ index-number-requires c =
           c.requires.known c.requires.node l is,
       c.loop-line.invariant.size,
       c.loop-line.taken.ok.0,
+      c.caller-place.ensures,
     )
 
 pub index_mut-requires : goal.index_mut-requires
@@ -45,6 +51,7 @@ index_mut-requires c =
           c.requires.known c.requires.node l is,
       c.loop-line.invariant.size,
       c.loop-line.taken.ok.0,
+      c.caller-place.ensures,
     )
 
 pub overflow_add-number : goal.overflow_add-number
@@ -56,12 +63,13 @@ overflow_add-number c =
     c.line-item.is ∙ ap (λ (hs : List HistoryLine). get_or hs c.loop-line.line-index c.line-item.result) lines in
     let known = caller_known c.args.mesh.now c.args.callers.now c.args.index c.loop-line.line-index c.line-item.result c.requires.agrees c.requires.known c.requires.node l is in
     let numbered : c.index-number.result.now ≡ get_or c.loop-line.taken.items c.line-item.result.caller 0 =
-    c.index-number.ensures ∙ get_or_default c.loop-line.taken.items c.line-item.result.caller c.index-number.result.now 0 (omega (arith, known, c.loop-line.invariant.size)) in
+    c.index-number.ensures ∙ get_or_default c.loop-line.taken.items c.caller-place.result c.index-number.result.now 0 (omega (arith, known, c.loop-line.invariant.size, c.caller-place.ensures))
+    ∙ ap (λ k. get_or c.loop-line.taken.items k 0) c.caller-place.ensures in
     omega (
       arith,
       number_small c.args.mesh.now c.args.callers.now c.args.index c.loop-line.line-index c.line-item.result c.requires.agrees
           c.requires.known c.requires.node l is c.args.ranked.now.items c.loop-line.ranked.items c.loop-line.taken.items c.loop-line.rank
-          c.loop-line.invariant c.index-callers-line.result c.index-callers-line.is c.index-number.result.now numbered,
+          c.loop-line.invariant c.index-callers-place.result (c.index-callers-place.is ∙ ap (λ k. get_or c.args.callers.now k c.index-callers-place.result) c.caller-place.ensures) c.index-number.result.now numbered,
       c.loop-line-test.true,
       c.as_slice-line-items.type_inv.0,
     )
@@ -75,12 +83,13 @@ reach-reach-requires-clause-node c =
     c.line-item.is ∙ ap (λ (hs : List HistoryLine). get_or hs c.loop-line.line-index c.line-item.result) lines in
     let known = caller_known c.args.mesh.now c.args.callers.now c.args.index c.loop-line.line-index c.line-item.result c.requires.agrees c.requires.known c.requires.node l is in
     let numbered : c.index-number.result.now ≡ get_or c.loop-line.taken.items c.line-item.result.caller 0 =
-    c.index-number.ensures ∙ get_or_default c.loop-line.taken.items c.line-item.result.caller c.index-number.result.now 0 (omega (arith, known, c.loop-line.invariant.size)) in
+    c.index-number.ensures ∙ get_or_default c.loop-line.taken.items c.caller-place.result c.index-number.result.now 0 (omega (arith, known, c.loop-line.invariant.size, c.caller-place.ensures))
+    ∙ ap (λ k. get_or c.loop-line.taken.items k 0) c.caller-place.ensures in
     omega (
       arith,
       nodes_reached c.args.mesh.now c.args.callers.now c.args.index c.loop-line.line-index c.line-item.result c.requires.agrees
           c.requires.known c.requires.node l is c.args.ranked.now.items c.loop-line.ranked.items c.loop-line.taken.items c.loop-line.rank
-          c.loop-line.invariant c.index-callers-line.result c.index-callers-line.is c.index-number.result.now numbered,
+          c.loop-line.invariant c.index-callers-place.result (c.index-callers-place.is ∙ ap (λ k. get_or c.args.callers.now k c.index-callers-place.result) c.caller-place.ensures) c.index-number.result.now numbered,
       c.requires.node,
     )
 
@@ -93,10 +102,11 @@ reach-reach-requires-clause-line c =
     c.line-item.is ∙ ap (λ (hs : List HistoryLine). get_or hs c.loop-line.line-index c.line-item.result) lines in
     let known = caller_known c.args.mesh.now c.args.callers.now c.args.index c.loop-line.line-index c.line-item.result c.requires.agrees c.requires.known c.requires.node l is in
     let numbered : c.index-number.result.now ≡ get_or c.loop-line.taken.items c.line-item.result.caller 0 =
-    c.index-number.ensures ∙ get_or_default c.loop-line.taken.items c.line-item.result.caller c.index-number.result.now 0 (omega (arith, known, c.loop-line.invariant.size)) in
+    c.index-number.ensures ∙ get_or_default c.loop-line.taken.items c.caller-place.result c.index-number.result.now 0 (omega (arith, known, c.loop-line.invariant.size, c.caller-place.ensures))
+    ∙ ap (λ k. get_or c.loop-line.taken.items k 0) c.caller-place.ensures in
     number_reached c.args.mesh.now c.args.callers.now c.args.index c.loop-line.line-index c.line-item.result c.requires.agrees c.requires.known
     c.requires.node l is c.args.ranked.now.items c.loop-line.ranked.items c.loop-line.taken.items c.loop-line.rank c.loop-line.invariant
-    c.index-callers-line.result c.index-callers-line.is c.index-number.result.now numbered
+    c.index-callers-place.result (c.index-callers-place.is ∙ ap (λ k. get_or c.args.callers.now k c.index-callers-place.result) c.caller-place.ensures) c.index-number.result.now numbered
 
 pub loop-line-preserved-in_default : goal.loop-line-preserved-in_default
 loop-line-preserved-in_default c =
@@ -107,11 +117,14 @@ loop-line-preserved-in_default c =
     c.line-item.is ∙ ap (λ (hs : List HistoryLine). get_or hs c.loop-line.line-index c.line-item.result) lines in
     let known = caller_known c.args.mesh.now c.args.callers.now c.args.index c.loop-line.line-index c.line-item.result c.requires.agrees c.requires.known c.requires.node l is in
     let numbered : c.index-number.result.now ≡ get_or c.loop-line.taken.items c.line-item.result.caller 0 =
-    c.index-number.ensures ∙ get_or_default c.loop-line.taken.items c.line-item.result.caller c.index-number.result.now 0 (omega (arith, known, c.loop-line.invariant.size)) in
-    walk_stays c.args.mesh.now c.args.callers.now c.args.index c.loop-line.line-index c.line-item.result c.requires.agrees c.requires.known
+    c.index-number.ensures ∙ get_or_default c.loop-line.taken.items c.caller-place.result c.index-number.result.now 0 (omega (arith, known, c.loop-line.invariant.size, c.caller-place.ensures))
+    ∙ ap (λ k. get_or c.loop-line.taken.items k 0) c.caller-place.ensures in
+    subst (λ k. Walked c.args.mesh.now c.args.callers.now c.args.index c.args.ranked.now.items c.loop-line.ranked.items
+    (set c.loop-line.taken.items k (c.index-number.result.now + 1)) c.loop-line.rank (c.loop-line.line-index + 1)) (sym c.caller-place.ensures)
+    (walk_stays c.args.mesh.now c.args.callers.now c.args.index c.loop-line.line-index c.line-item.result c.requires.agrees c.requires.known
     c.requires.node l is c.args.ranked.now.items c.loop-line.ranked.items c.loop-line.taken.items c.loop-line.rank c.loop-line.invariant
-    c.index-callers-line.result c.index-callers-line.is c.index-number.result.now numbered c.reach-reach.result c.reach-reach.ensures
-    (sym c.in_default.is ∙ c.in_ok-event.ensures)
+    c.index-callers-place.result (c.index-callers-place.is ∙ ap (λ k. get_or c.args.callers.now k c.index-callers-place.result) c.caller-place.ensures) c.index-number.result.now numbered c.reach-reach.result c.reach-reach.ensures
+    (sym c.in_default.is ∙ c.in_ok-event.ensures))
 
 pub loop-line-preserved : goal.loop-line-preserved
 loop-line-preserved c =
@@ -122,12 +135,15 @@ loop-line-preserved c =
     c.line-item.is ∙ ap (λ (hs : List HistoryLine). get_or hs c.loop-line.line-index c.line-item.result) lines in
     let known = caller_known c.args.mesh.now c.args.callers.now c.args.index c.loop-line.line-index c.line-item.result c.requires.agrees c.requires.known c.requires.node l is in
     let numbered : c.index-number.result.now ≡ get_or c.loop-line.taken.items c.line-item.result.caller 0 =
-    c.index-number.ensures ∙ get_or_default c.loop-line.taken.items c.line-item.result.caller c.index-number.result.now 0 (omega (arith, known, c.loop-line.invariant.size)) in
-    walk_moves c.args.mesh.now c.args.callers.now c.args.index c.loop-line.line-index c.line-item.result c.requires.agrees c.requires.known
+    c.index-number.ensures ∙ get_or_default c.loop-line.taken.items c.caller-place.result c.index-number.result.now 0 (omega (arith, known, c.loop-line.invariant.size, c.caller-place.ensures))
+    ∙ ap (λ k. get_or c.loop-line.taken.items k 0) c.caller-place.ensures in
+    subst (λ k. Walked c.args.mesh.now c.args.callers.now c.args.index c.args.ranked.now.items c.push.new.self.items
+    (set c.loop-line.taken.items k (c.index-number.result.now + 1)) c.rank_of-rank.result (c.loop-line.line-index + 1)) (sym c.caller-place.ensures)
+    (walk_moves c.args.mesh.now c.args.callers.now c.args.index c.loop-line.line-index c.line-item.result c.requires.agrees c.requires.known
     c.requires.node l is c.args.ranked.now.items c.loop-line.ranked.items c.loop-line.taken.items c.loop-line.rank c.loop-line.invariant
-    c.index-callers-line.result c.index-callers-line.is c.index-number.result.now numbered c.reach-reach.result c.in-Some.field-0
+    c.index-callers-place.result (c.index-callers-place.is ∙ ap (λ k. get_or c.args.callers.now k c.index-callers-place.result) c.caller-place.ensures) c.index-number.result.now numbered c.reach-reach.result c.in-Some.field-0
     c.rank_of-rank.result c.push.new.self.items c.reach-reach.ensures (sym c.in-Some.is ∙ c.in_ok-event.ensures) c.rank_of-rank.ensures
-    c.in_ok-push.ensures.items
+    c.in_ok-push.ensures.items)
 
 pub returns : goal.returns
 returns c =

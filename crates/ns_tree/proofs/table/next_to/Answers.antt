@@ -1,7 +1,7 @@
 use Rattle.std.proofs.Common.{◌≡◌, ◌∙◌, ◌+◌, ◌<◌, sym, subst, map, length, arith, Equal, Greater}
 use Rattle.std.proofs.lemmas.Bool.Decides.{nat_tests}
 use Rattle.ns_tree.specs.declared.inode.Row.{Row}
-use Rattle.ns_path.specs.Path.{walk_cmp}
+use Rattle.ns_tree.specs.Path.{walk_cmp}
 use Rattle.ns_tree.proofs.Boxes.{in_box, length-boxes}
 use Rattle.ns_tree.proofs.Place.{found_at, gap_next}
 use Rattle.ns_tree.proofs.table.next_to.Goals as goal

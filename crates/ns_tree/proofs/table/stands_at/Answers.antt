@@ -2,9 +2,9 @@ use Rattle.std.proofs.Common.{◌≡◌, ◌∙◌, ◌<◌, sym, ap, subst, map
 use Rattle.std.specs.declared.cmp.Ordering.TheVariants.{Equal}
 use Rattle.std.proofs.lemmas.Bool.Decides.{nat_tests}
 use Rattle.ns_tree.specs.declared.inode.Row.{Row}
-use Rattle.ns_path.specs.Path.{walk_cmp}
+use Rattle.ns_tree.specs.Path.{walk_cmp}
 use Rattle.ns_tree.proofs.Boxes.{in_box, length-boxes}
-use Rattle.ns_path.proofs.Order.{same_text_is, walk_cmp_self}
+use Rattle.ns_tree.proofs.Order.{same_text_is, walk_cmp_self}
 use Rattle.ns_tree.proofs.Place.{found_at}
 use Rattle.ns_tree.proofs.table.stands_at.Goals as goal
 

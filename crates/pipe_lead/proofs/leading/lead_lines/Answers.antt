@@ -1,7 +1,7 @@
 use Rattle.std.proofs.Common.{◌≡◌, ◌∙◌, None, Some, arith}
 use Rattle.pipe_lead.specs.Leads.{end_of}
 use Rattle.pipe_lead.proofs.EndLaws.{line_read}
-use Rattle.pipe_lead.proofs.LeadLaws.{lines_next, lines_end, lines_cut, lines_cut_later, lines_out}
+use Rattle.pipe_lead.proofs.LeadLaws.{lines_next, lines_end, lines_cut, lines_cut_later, lines_cut_rest, lines_out, at_rest}
 use Rattle.pipe_lead.proofs.leading.lead_lines.Goals as goal
 
 -- there is no next line
@@ -11,6 +11,9 @@ returns-in-Some-clause-led g c =
     lines_end c.next_line.result c.in-Some.end c.next_line.new.self.line (g.A.Actor.seen c.loop.by) c.args.seats.now c.loop.seats c.loop.reader c.next_line.new.self
     (g.I.Source.left c.args.source.now) (g.I.Source.left c.loop.source) (g.I.Source.left c.next_line.new.source) (g.P.Sink.taken c.args.sink.now) (g.P.Sink.taken c.loop.sink)
     c.loop.counter c.loop.invariant.so_far c.loop.invariant.anew c.next_line.ensures.next is
+
+pub returns-in-Some-clause-resting : goal.returns-in-Some-clause-resting
+returns-in-Some-clause-resting g c = at_rest c.in-Some.end _ c.loop.invariant.so_far.resting
 
 -- a line ends it
 pub returns-in-Some-answer_in_time-clause-led : goal.returns-in-Some-answer_in_time-clause-led
@@ -27,6 +30,11 @@ returns-in-Some-answer_in_time-clause-later g c =
     lines_cut_later c.in-Some-answer_in_time.end c.line.result.now (g.A.Actor.seen c.loop.by) (g.A.Actor.seen c.answer_in_time.new.by) c.args.seats.now c.loop.seats
     c.answer_in_time.new.seats _ _ _ (g.P.Sink.taken c.loop.sink) (g.P.Sink.taken c.answer_in_time.new.sink) c.loop.counter c.loop.invariant.so_far
     c.in-Some-answer_in_time.ensures.answered
+
+pub returns-in-Some-answer_in_time-clause-resting : goal.returns-in-Some-answer_in_time-clause-resting
+returns-in-Some-answer_in_time-clause-resting g c =
+    lines_cut_rest c.in-Some-answer_in_time.end c.line.result.now (g.A.Actor.seen c.loop.by) (g.A.Actor.seen c.answer_in_time.new.by) c.args.seats.now c.loop.seats
+    c.answer_in_time.new.seats (g.P.Sink.taken c.loop.sink) (g.P.Sink.taken c.answer_in_time.new.sink) c.in-Some-answer_in_time.ensures.answered
 
 pub returns-in-Some-answer_in_time-clause-no_write_fault : goal.returns-in-Some-answer_in_time-clause-no_write_fault
 returns-in-Some-answer_in_time-clause-no_write_fault g c = λ n. c.in-Some-answer_in_time.ensures.no_write_fault (λ e. n (cc e)) ∙ c.loop.invariant.wrote
@@ -55,3 +63,6 @@ pub returns-clause-led : goal.returns-clause-led
 returns-clause-led g c =
     lines_out (g.A.Actor.seen c.loop.by) c.args.seats.now c.loop.seats c.loop.reader (g.I.Source.left c.args.source.now) (g.I.Source.left c.loop.source)
     (g.P.Sink.taken c.args.sink.now) (g.P.Sink.taken c.loop.sink) c.loop.counter c.loop.invariant.so_far (omega (arith, c.loop-test.false))
+
+pub returns-clause-resting : goal.returns-clause-resting
+returns-clause-resting g c = c.loop.invariant.so_far.resting

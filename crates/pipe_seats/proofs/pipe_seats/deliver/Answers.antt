@@ -1,11 +1,11 @@
 use Rattle.pipe_seats.proofs.SeatLaws.{told_dropped, told_muted, told_reply, told_silent}
 use Rattle.pipe_seats.proofs.pipe_seats.deliver.Goals as goal
 
-pub returns-in-NotDelivered-clause-told : goal.returns-in-NotDelivered-clause-told
-returns-in-NotDelivered-clause-told g c = told_dropped c.args.delivery c.in-NotDelivered.is
+pub returns-else-is_under_way-clause-told : goal.returns-else-is_under_way-clause-told
+returns-else-is_under_way-clause-told g c = told_dropped c.args.delivery c.in-NotDelivered.is
 
-pub returns-in_ok-call_shared-in-ReplyLost-clause-told : goal.returns-in_ok-call_shared-in-ReplyLost-clause-told
-returns-in_ok-call_shared-in-ReplyLost-clause-told g c = told_muted c.args.delivery c.in-ReplyLost.is
+pub returns-in_ok-call-in-ReplyLost-clause-told : goal.returns-in_ok-call-in-ReplyLost-clause-told
+returns-in_ok-call-in-ReplyLost-clause-told g c = told_muted c.args.delivery c.in-ReplyLost.is
 
 pub returns-in-Answer-clause-told : goal.returns-in-Answer-clause-told
 returns-in-Answer-clause-told g c = told_reply c.args.delivery c.in-Answer.reply c.in-Delivered.is

@@ -9,11 +9,11 @@ use Rattle.journal_core.specs.declared.heard.Heard.TheVariants.{Answer}
 use Rattle.journal_core.specs.declared.refusal.Refusal.TheVariants as refusal
 use Rattle.journal_core.specs.declared.reply.Reply.TheVariants as reply
 use Rattle.journal_core.specs.declared.request.Request.TheVariants.{Read}
-use Rattle.journal_mirror.specs.Fetching.{call_of}
+use Rattle.writer_calls.specs.Fetching.{call_of}
 use Rattle.play_names.specs.Tails.{pass_begun, tail_hears, pass_end, least_purged}
 use Rattle.play_standby.specs.Reads.{AreReads, tail_along}
 use Rattle.play_boot.specs.Nodes.{IsAnswered}
-use Rattle.journal_mirror.specs.Examples.{one_down}
+use Rattle.writer_calls.specs.Examples.{one_down}
 use Rattle.play_boot.proofs.examples.an_image_at_the_end_is_caught_up.Goals as goal
 
 pub returns : goal.returns

@@ -1,6 +1,6 @@
 use Rattle.std.proofs.Common.{◌≤◌, List, length, map, All, sym, subst}
 use Rattle.base_disk.specs.MemDisk.{disk_view}
-use Rattle.journal_mirror.specs.States.{IsTold}
+use Rattle.writer_calls.specs.States.{IsTold}
 use Rattle.play_boot.specs.Nodes.{IsBootedOver}
 use Rattle.play_boot.proofs.NodeLaws.{over_nodes, or_memory, none_in}
 use Rattle.play_boot.proofs.nodes.boot_nodes.Goals as goal

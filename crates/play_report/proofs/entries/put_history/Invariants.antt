@@ -3,4 +3,4 @@ use Rattle.play_report.specs.Text.{history_text}
 use Rattle.play_report.proofs.entries.put_history.Given as goal
 
 abbrev pub invariant-loop-line : goal.invariant-loop-line
-invariant-loop-line l = l.out.items ≡ l.fn.out.items ++ history_text l.ends (take l.line-index l.lines)
+invariant-loop-line g l = l.out ≡ l.fn.out ++ history_text l.ends (take l.line-index l.lines)

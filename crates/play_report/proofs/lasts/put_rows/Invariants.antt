@@ -3,4 +3,4 @@ use Rattle.play_report.specs.Text.{rows_text}
 use Rattle.play_report.proofs.lasts.put_rows.Given as goal
 
 abbrev pub invariant-loop-row : goal.invariant-loop-row
-invariant-loop-row l = l.out.items ≡ l.fn.out.items ++ rows_text (take l.row-index l.rows)
+invariant-loop-row g l = l.out ≡ l.fn.out ++ rows_text (take l.row-index l.rows)

@@ -1,5 +1,5 @@
 use Rattle.std.proofs.Common.{◌==◌, length, map, sym, ap, subst, ◌∙◌}
-use Rattle.play_gates.specs.Seated.{seat_of}
+use Rattle.play_threads.specs.Seated.{seat_of}
 use Rattle.play_model.specs.Lines.{line_of}
 use Rattle.play_threads.specs.Threads.{DoesLines}
 use Rattle.play_threads.proofs.Leaving.{leaves}

@@ -1,5 +1,5 @@
 use Rattle.std.proofs.Common.{ap}
-use Rattle.play_gates.specs.LaterLaws.{later_same, later_on}
+use Rattle.play_threads.specs.LaterLaws.{later_same, later_on}
 use Rattle.play_threads.proofs.OperatorLaws.{operated_first, operated_next}
 use Rattle.play_threads.proofs.operator_lines.operate_alone.Goals as goal
 

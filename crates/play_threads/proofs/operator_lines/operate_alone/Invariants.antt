@@ -1,5 +1,5 @@
 use Rattle.std.proofs.Common.{map, take}
-use Rattle.play_gates.specs.Seated.{AreLater}
+use Rattle.play_threads.specs.Seated.{AreLater}
 use Rattle.play_model.specs.Lines.{line_of}
 use Rattle.play_threads.specs.Threads.{HasOperated}
 use Rattle.play_threads.proofs.operator_lines.operate_alone.Given as goal

@@ -1,11 +1,11 @@
 use Rattle.std.proofs.Common.{◌≡◌, ◌+◌, ◌-◌, ◌∙◌, sym, ap, subst, arith, length, map, get_or}
 use Rattle.std.proofs.lemmas.List.{length-map, length-take-le}
 use Rattle.play_model.proofs.Final.{names_count}
-use Rattle.play_gates.specs.Board.{AllAt}
+use Rattle.play_threads.specs.Board.{AllAt}
 use Rattle.mesh.specs.declared.whole.Mesh.{Mesh}
-use Rattle.play_gates.specs.Seated.{seat_of}
-use Rattle.play_gates.specs.Gates.{row_at, AreOf, IsLeft}
-use Rattle.play_gates.proofs.GateLaws.{columns_many}
+use Rattle.play_threads.specs.Seated.{seat_of}
+use Rattle.play_threads.specs.Gates.{row_at, AreOf, IsLeft}
+use Rattle.play_threads.proofs.GateLaws.{columns_many}
 use Rattle.play_model.specs.Lines.{line_of, lines_of, AreInRange, ArePlayable}
 use Rattle.play_threads.specs.Gathered.{AreGathered, MayAct}
 use Rattle.play_threads.proofs.LineLaws.{may_come}

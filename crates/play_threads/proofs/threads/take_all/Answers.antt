@@ -1,5 +1,5 @@
 use Rattle.std.proofs.Common.{map, sym, subst}
-use Rattle.play_gates.specs.Seated.{seat_of}
+use Rattle.play_threads.specs.Seated.{seat_of}
 use Rattle.play_threads.specs.Gathered.{MayAct}
 use Rattle.play_threads.proofs.threads.take_all.Goals as goal
 

@@ -1,6 +1,6 @@
 use Rattle.std.proofs.Common.{subst}
-use Rattle.report_reading.specs.declared.answer.Reading.{Reading}
-use Rattle.report_reading.specs.Reads.{Tells}
+use Rattle.report_judge.specs.declared.answer.Reading.{Reading}
+use Rattle.report_judge.specs.Reads.{Tells}
 use Rattle.report_judge.proofs.Judgements.{judged}
 use Rattle.report_judge.proofs.judging.judge.Goals as goal
 

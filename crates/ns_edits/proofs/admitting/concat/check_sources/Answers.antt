@@ -1,6 +1,6 @@
 use Rattle.std.proofs.Common.{◌≡◌, ◌∷◌, [], ◌+◌, ◌<◌, ◌||◌, Some, None, length, take, drop, arith, rules}
 use Rattle.std.specs.List.{list_any}
-use Rattle.ns_path.specs.Path.{same_text}
+use Rattle.ns_tree.specs.Path.{same_text}
 use Rattle.ns_edits.specs.declared.refusal.AdmitRefusal.TheVariants.{IntoItself}
 use Rattle.ns_edits.specs.Admit.{Refusal, first, refused_if, admit_part, admit_sources}
 use Rattle.ns_edits.proofs.Sources.{listed, source_step, refused_at, passed_at}

@@ -1,5 +1,5 @@
 use Rattle.std.proofs.Common.{◌≡◌, ◌≤◌, drop, length, false}
-use Rattle.ns_path.specs.Path.{has_slash}
+use Rattle.ns_tree.specs.Path.{has_slash}
 use Rattle.ns_edits.proofs.admitting.rename_checks.last_component.Given as goal
 
 abbrev pub invariant-loop-i : goal.invariant-loop-i

@@ -1,5 +1,5 @@
 use Rattle.std.proofs.Common.{◌≡◌, ◌∷◌, ◌∙◌, ap, sym, subst, refl}
-use Rattle.ns_path.specs.Path.{parent_of}
+use Rattle.ns_tree.specs.Path.{parent_of}
 use Rattle.ns_tree.specs.Space.{Space, raise, change_at, IsInode}
 use Rattle.ns_edits.specs.Admit.{blocks_at}
 use Rattle.ns_edits.specs.Apply.{with_all_blocks, AreSources, without_sources}

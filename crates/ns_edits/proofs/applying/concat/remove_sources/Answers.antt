@@ -1,6 +1,6 @@
 use Rattle.std.proofs.Common.{◌≡◌, ◌∷◌, ◌+◌, ◌∙◌, ap, sym, subst, refl, drop, List, ℕ}
 use Rattle.ns_tree.specs.declared.inode.Row.{Row}
-use Rattle.ns_path.specs.Path.{parent_of}
+use Rattle.ns_tree.specs.Path.{parent_of}
 use Rattle.ns_tree.specs.Space.{without, raise}
 use Rattle.ns_edits.specs.Apply.{AreSources, without_sources}
 use Rattle.ns_edits.proofs.Joins.{next_source, sources_left}

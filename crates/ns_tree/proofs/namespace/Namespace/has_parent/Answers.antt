@@ -1,9 +1,9 @@
 use Rattle.std.proofs.Common.{◌≡◌, sym, ap, ◌∙◌, List, ℕ, ◌-◌, get_or, true}
 use Rattle.ns_tree.specs.declared.inode.Row.{Row}
-use Rattle.ns_path.specs.Path.{parent_of}
+use Rattle.ns_tree.specs.Path.{parent_of}
 use Rattle.ns_tree.specs.Space.{Space, find, is_dir_there}
 use Rattle.ns_tree.specs.Last.{has_parent}
-use Rattle.ns_path.proofs.Order.{same_text_is}
+use Rattle.ns_tree.proofs.Order.{same_text_is}
 use Rattle.ns_tree.proofs.Last.{last_parent, some_rows}
 use Rattle.ns_tree.proofs.namespace.Namespace.has_parent.Goals as goal
 

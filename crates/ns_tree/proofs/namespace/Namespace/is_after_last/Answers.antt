@@ -1,7 +1,7 @@
 use Rattle.std.proofs.Common.{◌≡◌, sym, ap, ◌∙◌, List, ℕ, get_or, ◌-◌}
 use Rattle.std.specs.Ordering.{is_lt}
 use Rattle.ns_tree.specs.declared.inode.Row.{Row}
-use Rattle.ns_path.specs.Path.{walk_cmp}
+use Rattle.ns_tree.specs.Path.{walk_cmp}
 use Rattle.ns_tree.specs.Space.{Space}
 use Rattle.ns_tree.specs.Last.{last_path, is_after_last}
 use Rattle.ns_tree.proofs.Last.{last_at, some_rows}

@@ -1,12 +1,12 @@
 use Rattle.std.proofs.Common.{◌≡◌, List, ap, arith, refl, sym, ◌∙◌, subst, length, true, false, ◌<◌, get_or}
 use Rattle.std.proofs.lemmas.Bool.Decides.{nat_tests}
-use Rattle.ns_path.specs.Path.{is_under, part_under, has_slash}
+use Rattle.ns_tree.specs.Path.{is_under, part_under, has_slash}
 use Rattle.ns_tree.specs.Space.{Space, IsInWalkOrder}
 use Rattle.ns_tree.specs.declared.inode.Row.{Row}
 use Rattle.ns_tree.specs.Places.{IsAt, IsSubtreeEnd, IsTree}
 use Rattle.ns_tree.proofs.Sound.{at_long}
 use Rattle.ns_tree.proofs.Children.{names_first, names_last, names_step_yes, names_step_no}
-use Rattle.ns_path.proofs.Under.{under_long}
+use Rattle.ns_tree.proofs.UnderPaths.{under_long}
 use Rattle.ns_tree.proofs.Names.{are_ordered}
 use Rattle.ns_tree.proofs.namespace.Namespace.names_from.Goals as goal
 use Rattle.ns_tree.proofs.namespace.Namespace.names_from.Goals.{then-not-contains_slash+in_ok-from_slice+in_ok-push, else-not-contains_slash}

@@ -1,9 +1,9 @@
 use Rattle.std.proofs.Common.{◌≡◌, ◌<◌, ◌++◌, ◌∙◌, ap, sym, subst, arith, refl, List, ℕ, length, drop, map}
 use Rattle.ns_tree.specs.declared.inode.Row.{Row}
 use Rattle.ns_tree.specs.Space.{Space, pair, put_at, renamed}
-use Rattle.ns_path.specs.Path.{moved_path}
+use Rattle.ns_tree.specs.Path.{moved_path}
 use Rattle.ns_tree.specs.Places.{IsAt, IsTree, named}
-use Rattle.ns_path.proofs.Parents.{Below, below_root}
+use Rattle.ns_tree.proofs.Parents.{Below, below_root}
 use Rattle.ns_tree.proofs.Place.{find_gap}
 use Rattle.ns_tree.proofs.Subtree.{without_cut, order_cut}
 use Rattle.ns_tree.proofs.Run.{subtree_between}

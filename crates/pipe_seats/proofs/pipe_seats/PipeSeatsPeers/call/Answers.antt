@@ -1,15 +1,13 @@
-use Rattle.std.proofs.Common.{◌≤◌, refl, sym, subst}
-use Rattle.pipe_seats.specs.Piped.{PipesView}
+use Rattle.std.proofs.Common.{refl}
 use Rattle.pipe_seats.proofs.SeatLaws.{listed_over, called_over}
 use Rattle.pipe_seats.proofs.pipe_seats.PipeSeatsPeers.call.Goals as goal
 
 pub returns-clause-listed : goal.returns-clause-listed
 returns-clause-listed g c =
     listed_over c.call_over.result _ c.args.self.now c.call_over.new.log c.args.node c.args.request c.index_mut.result.now
-    c.call_over.new.pipe c.self.view_is c.call_over.ensures.called c.call_over.ensures.unlisted
+    c.call_over.new.seat c.self.view_is c.call_over.ensures.called c.call_over.ensures.unlisted
 
 pub returns-clause-called : goal.returns-clause-called
 returns-clause-called g c =
-    called_over c.call_over.result _ c.args.self.now _ c.args.node c.args.request c.index_mut.result.now c.call_over.new.pipe c.self.view_is c.requires.first
-    (subst (λ (n : _). c.args.node ≤ n) (sym c.self.invariant) (subst (λ (v : PipesView). c.args.node ≤ v.log.nodes) (sym c.self.view_is)
-    c.requires.last)) c.index_mut.ensures.value refl c.call_over.ensures.called
+    called_over c.call_over.result _ c.args.self.now _ c.args.node c.args.request c.index_mut.result.now c.call_over.new.seat c.self.view_is c.requires.first
+    c.index_mut.ensures.value refl c.call_over.ensures.called

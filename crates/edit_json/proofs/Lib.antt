@@ -1,9 +1,0 @@
-pub mod Lines
-pub mod Orders
-pub mod Found
-pub mod Rows
-pub mod Sound
-pub mod FieldValues
-pub mod Readings
-pub mod Entries
-pub mod Coding

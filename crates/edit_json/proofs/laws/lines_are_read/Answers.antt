@@ -1,9 +1,0 @@
--- Lines are read as what was written.
-use Rattle.edit_json.proofs.Lines.{line_text, line_reads}
-use Rattle.edit_json.proofs.laws.lines_are_read.Goals as goal
-
-pub returns-clause-text : goal.returns-clause-text
-returns-clause-text c = line_text
-
-pub returns-clause-value : goal.returns-clause-value
-returns-clause-value c = line_reads

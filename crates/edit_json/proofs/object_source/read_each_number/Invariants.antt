@@ -1,7 +1,0 @@
-use Rattle.edit_json.specs.Values.{number_in}
-use Rattle.edit_json.proofs.Coding.{ListedFrom}
-use Rattle.edit_json.proofs.object_source.read_each_number.Given as goal
-
--- the items so far, and those of the values that are left, are all
-abbrev pub invariant-loop-value : goal.invariant-loop-value
-invariant-loop-value l = ListedFrom (number_in 4611686018427387904) l.values l.items l.value-index

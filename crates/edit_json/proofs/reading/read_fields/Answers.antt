@@ -1,6 +1,0 @@
-use Rattle.serde_json.specs.View.{view}
-use Rattle.edit_json.proofs.Coding.{op_gives}
-use Rattle.edit_json.proofs.reading.read_fields.Goals as goal
-
-pub returns : goal.returns
-returns c = op_gives c.args.kind (view c.args.object.now) _ _ c.read_op.result c.keys.ensures c.read_op.ensures

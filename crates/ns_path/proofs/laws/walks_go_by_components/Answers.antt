@@ -1,5 +1,0 @@
-use Rattle.ns_path.proofs.Components.{walk_by_components}
-use Rattle.ns_path.proofs.laws.walks_go_by_components.Goals as goal
-
-pub returns : goal.returns
-returns c = walk_by_components

@@ -1,5 +1,0 @@
-use Rattle.pipe_laws.proofs.ProcessLaws.{are_clusters}
-use Rattle.pipe_laws.proofs.laws.processes_are_clusters.Goals as goal
-
-pub returns : goal.returns
-returns c = are_clusters

@@ -1,5 +1,0 @@
-use Rattle.pipe_laws.proofs.TagLaws.{all_tags}
-use Rattle.pipe_laws.proofs.laws.tags_carry.Goals as goal
-
-pub returns : goal.returns
-returns c = all_tags

@@ -1,5 +1,0 @@
-pub mod Board
-pub mod Entries
-pub mod Seated
-pub mod LaterLaws
-pub mod Gates

@@ -1,6 +1,0 @@
-pub mod Kept
-pub mod Shown
-pub mod PlaySeats
-pub mod SeatLaws
-pub mod Ready
-pub mod Goal

@@ -1,0 +1,155 @@
+-- The rule that ties the words, the slot and the views, and what each step tells.
+use Rattle.std.specs.Prelude.{◌≡◌, ◌≢◌, ℕ, suc, ◌+◌, ◌%◌, ◌^◌, ◌<◌, ◌≤◌, List, [], ◌∷◌, ◌++◌, length, Bool, true, false, ◌==◌}
+use mathlib.Core.Option.{Option, some, none}
+use lib.ListN.{get_elem?}
+use Rattle.atomic_table.specs.Table.{State, Me, Step}
+use Rattle.play_threads.specs.declared.board.View.{View}
+use Rattle.play_threads.specs.declared.board.Stage.{Stage}
+use Rattle.play_threads.specs.declared.board.Stage.TheVariants.{Keeps, Rests, Waits, Inside, Spent}
+
+-- the second list begins with the first
+abbrev pub Begins : {A : Type 0} → List A → List A → Type 0
+Begins {A} xs ys = (rest : List A) × (xs ++ rest ≡ ys)
+
+abbrev pub keep_if : Bool → ℕ → List ℕ → List ℕ
+keep_if true n ns = n ∷ ns
+keep_if false n ns = ns
+
+abbrev pub places_from : {E : Type 0} → ℕ → ℕ → List (ℕ × E) → List ℕ
+places_from by n [] = []
+places_from by n (e ∷ es) = keep_if (e.0 == by) n (places_from by (suc n) es)
+
+-- the places of a caller's calls in a history
+abbrev pub places_of : {E : Type 0} → ℕ → List (ℕ × E) → List ℕ
+places_of by log = places_from by 0 log
+
+abbrev pub Log : Type 0 → Type 0
+Log E = List (ℕ × E)
+
+-- whether a seat has a ticket
+abbrev pub turn : Stage → ℕ
+turn Keeps = 0
+turn Rests = 0
+turn Waits = 1
+turn Inside = 1
+turn Spent = 0
+
+module _ {E : Type 0} where
+  abbrev pub keeper : ℕ → List (Log E × List ℕ) → View E
+  keeper made ended = record { stage = Keeps; caller = 0; ticket = 0; seen = []; places = []; made = made; ended = ended }
+
+  abbrev pub seated : Stage → ℕ → ℕ → Log E → List ℕ → View E
+  seated st by ticket seen places = record { stage = st; caller = by; ticket = ticket; seen = seen; places = places; made = 0; ended = [] }
+
+  abbrev pub nobody : View E
+  nobody = seated Spent 0 0 [] []
+
+  abbrev pub made_one : View E → View E
+  made_one v = keeper (suc v.made) v.ended
+
+  abbrev pub new_seat : View E → View E
+  new_seat v = seated Rests v.made 0 [] []
+
+  abbrev pub took_in : View E → View E → View E
+  took_in v w = keeper v.made (v.ended ++ (w.seen, w.places) ∷ [])
+
+  abbrev pub turns : List (View E) → ℕ
+  turns [] = 0
+  turns (v ∷ vs) = turn v.stage + turns vs
+
+  -- owners: which seat drew each ticket. served: how many have passed on. out: whether a seat has
+  -- the cell
+  module _ (owners : List ℕ) (served : ℕ) (log : Log E) (out : Bool) (ended : List (Log E × List ℕ)) (count by : ℕ) (v : View E) where
+    abbrev pub Sits : Type 0
+    Sits = (by ≡ suc v.caller) × Begins v.seen log × (places_of v.caller log ≡ v.places) × (length ended ≤ v.caller)
+
+    abbrev pub Owns : Type 0
+    Owns = get_elem? owners v.ticket ≡ some by
+
+    abbrev pub Knows : Stage → Type 0
+    Knows Keeps = (by ≡ 0) × (v.ended ≡ ended) × (count ≡ suc v.made) × (length ended ≤ v.made)
+    Knows Rests = Sits
+    Knows Waits = Sits × Owns × (served ≤ v.ticket) × (v.ticket ≡ served → out ≡ false)
+    Knows Inside = Sits × Owns × (v.ticket ≡ served) × (out ≡ true) × (v.seen ≡ log)
+    Knows Spent = Unit {0}
+
+module _ {S E : Type 0} (history : S → Log E) where
+  -- the cell is at home with this history, or out with a seat
+  abbrev pub Lies : Log E → List (Option S) → Bool → Type 0
+  Lies log homes false = (c : S) × (homes ≡ some c ∷ []) × (history c ≡ log)
+  Lies log homes true = homes ≡ none ∷ []
+
+  pub record Kept (s : State S (View E)) : Type 0 where
+    pub owners : List ℕ
+    pub served : ℕ
+    pub log : Log E
+    pub out : Bool
+    pub ended : List (Log E × List ℕ)
+    pub words_are : s.words ≡ length owners % 2 ^ 64 ∷ served % 2 ^ 64 ∷ length log ∷ []
+    pub lies : Lies log s.homes out
+    pub drawn : served + turns s.views ≡ length owners
+    pub busy : out ≡ true → served < length owners
+    pub few : length s.views ≤ 2 ^ 32
+    pub each : (by : ℕ) (v : View E) → get_elem? s.views by ≡ some v → Knows owners served log out ended (length s.views) by v v.stage
+    pub past : (k : ℕ) (p : Log E × List ℕ) → get_elem? ended k ≡ some p → Begins p.0 log × (places_of k log ≡ p.1)
+    pub later : (k : ℕ) → length s.views ≤ suc k → places_of k log ≡ []
+
+  -- the history of the cell that the seat holds
+  abbrev pub held : List (ℕ × S) → Log E
+  held [] = []
+  held (x ∷ xs) = history x.1
+
+  -- a look at another's turn tells nothing. At its own the seat takes the cell, and has seen the
+  -- whole history
+  abbrev pub looked : Step S → Me S (View E) → ℕ → Me S (View E) → Type 0
+  looked st m r m' =
+      (r ≢ m.0.ticket % 2 ^ 64 → m' ≡ m)
+      × (r ≡ m.0.ticket % 2 ^ 64 → (c : S) × (m' ≡ (seated Inside m.0.caller m.0.ticket (history c) m.0.places, (0, c) ∷ m.1))
+      × Begins m.0.seen (history c) × (places_of m.0.caller (history c) ≡ m.0.places))
+
+  -- the place of the call is the length that was found
+  abbrev pub noted : Step S → Me S (View E) → ℕ → Me S (View E) → Type 0
+  noted st m r m' = (r ≡ length m.0.seen) × (m' ≡ (seated Inside m.0.caller m.0.ticket (held m.1) (m.0.places ++ r ∷ []), m.1))
+
+module _ {S E : Type 0} where
+  abbrev pub drew : Step S → Me S (View E) → ℕ → Me S (View E) → Type 0
+  drew st m r m' = (t : ℕ) × (r ≡ t % 2 ^ 64) × (m' ≡ (seated Waits m.0.caller t m.0.seen m.0.places, m.1))
+
+  abbrev pub passed : Step S → Me S (View E) → ℕ → Me S (View E) → Type 0
+  passed st m r m' = m' ≡ (seated Rests m.0.caller 0 m.0.seen m.0.places, [])
+
+module _ {S E : Type 0} where
+  -- a seat that is at no call, with its caller's number and the places of its calls
+  abbrev pub AtRest : Me S (View E) → ℕ → List ℕ → Type 0
+  AtRest m caller places = (m.0.stage ≡ Rests) × (m.1 ≡ []) × (m.0.caller ≡ caller) × (m.0.places ≡ places) × (places_of caller m.0.seen ≡ places)
+
+module _ {S E : Type 0} (history : S → Log E) where
+  -- the seat has the cell and has seen its whole history, which goes on from what the seat had seen
+  -- with none of its own calls
+  abbrev pub Entered : Me S (View E) → Me S (View E) → Type 0
+  Entered m m' = (c : S) × (m' ≡ (seated Inside m.0.caller m'.0.ticket (history c) m.0.places, (0, c) ∷ [])) × Begins m.0.seen (history c) × (places_of m.0.caller (history c) ≡ m.0.places)
+
+  -- the cell in the held slot, with more in its history
+  abbrev pub Visited : Me S (View E) → List (ℕ × E) → Me S (View E) → Type 0
+  Visited m more m' = (d : S) × (m' ≡ (m.0, (0, d) ∷ [])) × (history d ≡ held history m.1 ++ more)
+
+module _ {S E : Type 0} where
+  -- after a call that was added, with its place
+  abbrev pub Added : Me S (View E) → E → ℕ → Me S (View E) → Type 0
+  Added m x place m' =
+      (between : Log E) × (m' ≡ (seated Rests m.0.caller 0 ((m.0.seen ++ between) ++ (m.0.caller, x) ∷ []) (m.0.places ++ place ∷ []), []))
+      × (place ≡ length (m.0.seen ++ between))
+      × (places_of m.0.caller m'.0.seen ≡ m'.0.places)
+
+  -- after a call that found no memory
+  abbrev pub Gave : Me S (View E) → Me S (View E) → Type 0
+  Gave m m' = (m' ≡ (seated Rests m.0.caller 0 m'.0.seen m.0.places, [])) × Begins m.0.seen m'.0.seen × (places_of m.0.caller m'.0.seen ≡ m.0.places)
+
+module _ {E : Type 0} where
+  -- a call that went on from what had been seen, and its place
+  abbrev pub Adds : Log E → List ℕ → ℕ × E → Log E → List ℕ → Type 0
+  Adds seen places entry seen' places' = (between : Log E) × (seen' ≡ (seen ++ between) ++ entry ∷ []) × (places' ≡ places ++ length (seen ++ between) ∷ [])
+
+-- each of a list meets P, with its place
+abbrev pub AllAt : {G : Type 0} → (ℕ → G → Type 0) → List G → Type 0
+AllAt {G} P gs = (k : ℕ) (g : G) → get_elem? gs k ≡ some g → P k g
