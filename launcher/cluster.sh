@@ -237,6 +237,24 @@ cluster_log() {
   tell_lead "$(active_lead)" "log $*"
 }
 
+# Has a lead that isn't active read the log, and save an image of its namespace in its folder.
+cluster_checkpoint() {
+  tell_lead "$1" tail
+  saved=$(tell_lead "$1" checkpoint)
+  told=$?
+  [ -z "$saved" ] || printf '%s\n' "$saved"
+  [ "$told" -eq 0 ] || exit 1
+  case $saved in
+    '= checkpoint '[0-9]*) ;;
+    *) say "no image was saved: a lead that is active saves none"; exit 1 ;;
+  esac
+}
+
+# Has the active lead purge what stands in the log before its images, but for so many txids more.
+cluster_trim() {
+  tell_lead "$(active_lead)" "trim ${1-0}"
+}
+
 # Gives the named lead any line.
 cluster_tell() {
   name=${1-}
@@ -333,6 +351,8 @@ cluster() {
     log) check_conf; cluster_log "$@" ;;
     tell) check_conf; cluster_tell "$@" ;;
     failover) check_conf; cluster_failover "${1-}" ;;
+    checkpoint) check_conf; cluster_checkpoint "${1-}" ;;
+    trim) check_conf; cluster_trim "$@" ;;
     kill) check_conf; cluster_kill "${1-}" "${2-}" ;;
     hold) check_conf; cluster_hold "${1-}" ;;
     release) check_conf; cluster_release "${1-}" ;;

@@ -11,7 +11,7 @@ _qjm_words() {
     2,oev) echo 'list stats json back' ;;
     2,oiv) echo 'delimited sizes json' ;;
     2,node) echo '--unchecked' ;;
-    2,cluster) echo 'up status log tell failover kill hold release down' ;;
+    2,cluster) echo 'up status log tell failover checkpoint trim kill hold release down' ;;
     *,draw) echo '--svg --whole' ;;
   esac
 }

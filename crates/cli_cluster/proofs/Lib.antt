@@ -1,3 +1,4 @@
+pub mod ImageLaws
 pub mod WordLaws
 pub mod StartLaws
 pub mod ServeLaws

@@ -1,4 +1,5 @@
 pub mod Words
 pub mod Starts
 pub mod Serves
+pub mod Images
 pub mod Leads

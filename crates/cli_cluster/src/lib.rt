@@ -3,11 +3,15 @@
 #![tactic(auto)]
 
 mod cluster_command;
+mod folder_actor;
+mod image_start;
 mod lead_command;
 mod life;
 mod serve_command;
 
 pub use cluster_command::{ClusterCommand, read_cluster_command};
+pub use folder_actor::{FolderActor, save_standby};
+pub use image_start::begin_lead;
 pub use lead_command::lead_cluster;
 pub use life::count_start;
 pub use serve_command::serve_node_to;

@@ -1,17 +1,20 @@
 //! Two threads at one gate: whichever comes first, their calls stand one behind the other.
 ghost use Rattle.std.specs.Prelude.{◌≡◌, IfOk};
 
-use play_threads::{Closed, Gate, GateCell, GateSeat, OutOfMemory};
+use play_threads::{Gate, GateCell, GateSeat, OutOfMemory};
 use std::alloc::{AllocError, Global};
 use std::process::Abort;
 use std::sync::Wait;
 use std::test::Fail;
 use std::thread::{Threads, join};
 
+// What was asked and answered: caller, ask, answer.
+type Entry = (u32, (u8, u64));
+
 // It answers how many entries came before.
 #[derive(Drop)]
 struct Counter {
-    entries: Vec<(u32, (u8, u64))>,
+    entries: Vec<Entry>,
 }
 
 impl GateCell for Counter {
@@ -19,9 +22,11 @@ impl GateCell for Counter {
 
     type Answer = u64;
 
-    ghost history = { λ c. c.entries.items };
+    ghost led = { λ log c. c.entries.items ≡ log };
 
     ghost fits = { λ ask answer. Unit {0} };
+
+    ghost lacks = { Unit {0} };
 
     fn act(&mut self, caller: u32, ask: &u8) -> Result<u64, OutOfMemory> {
         let number = self.entries.len() as u64;
@@ -56,7 +61,7 @@ fn two_threads<R: Threads + Wait + Sync>(
     rt: &R,
     alloc: Global,
     count: u64,
-) -> Result<(Closed<Counter>, Vec<u64>, Vec<u64>), OutOfMemory> {
+) -> Result<(Counter, Vec<u64>, Vec<u64>), OutOfMemory> {
     let cell = Counter {
         entries: Vec::new(alloc),
     };
@@ -100,19 +105,30 @@ fn are_in_turn(alloc: Global, one: &[u64], other: &[u64]) -> Result<bool, OutOfM
     Ok(once && one.is_sorted() && other.is_sorted())
 }
 
+// The answers to one caller, in their order.
+fn answers_to(alloc: Global, entries: &[Entry], caller: u32) -> Result<Vec<u64>, OutOfMemory> {
+    let mut answers = Vec::new(alloc);
+    for (by, (_, answer)) in entries {
+        if *by == caller {
+            answers.push(*answer)?;
+        }
+    }
+    Ok(answers)
+}
+
 fn answer_in_turn<R: Threads + Wait + Sync + Abort>(
     rt: &R,
     alloc: Global,
     count: u64,
 ) -> Result<(), Fail> {
-    let (closed, one, other) = two_threads(rt, alloc, count)?;
-    let Closed { cell, places } = closed;
+    let (cell, one, other) = two_threads(rt, alloc, count)?;
     assert!(rt; cell.entries.len() as u64 / 2 == count);
     let in_turn = are_in_turn(alloc, one.as_slice(), other.as_slice())?;
     assert!(rt; in_turn);
-    assert!(rt; places.len() == 2);
-    assert!(rt; places[0].as_slice() == one.as_slice());
-    assert!(rt; places[1].as_slice() == other.as_slice());
+    let left = answers_to(alloc, &cell.entries, 0)?;
+    let right = answers_to(alloc, &cell.entries, 1)?;
+    assert!(rt; left.as_slice() == one.as_slice());
+    assert!(rt; right.as_slice() == other.as_slice());
     Ok(())
 }
 

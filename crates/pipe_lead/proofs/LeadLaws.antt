@@ -1,10 +1,10 @@
 -- A name node along the lines of its input.
-use Rattle.std.proofs.Common.{ℕ, ◌≡◌, ◌+◌, ◌^◌, ◌<◌, ◌≤◌, ◌==◌, List, [], ◌∷◌, ◌++◌, map, length, take, drop, Option, Some, None, Bool, true}
+use Rattle.std.proofs.Common.{ℕ, ◌≡◌, ◌+◌, ◌^◌, ◌≤◌, ◌==◌, List, [], ◌∷◌, ◌++◌, map, length, take, drop, Option, Some, None, Bool, true}
 use Rattle.std.proofs.Common.{false, cond, refl, sym, ap, ◌∙◌, subst, arith, length-append, append-nil, append_assoc, inl, inr}
-use Rattle.std.specs.Prelude.{codes}
+use Rattle.std.specs.Prelude.{codes, is_some}
 use Rattle.std.specs.Io.KnownBytes.{Appends, Consumes, prepend_known}
 use Rattle.std.proofs.KnownBytes.{Appends-nil, Appends-trans, Consumes-nil, Consumes-trans}
-use Rattle.std.proofs.Math.Seq.{take-append_seam, take-append-add, drop-append_seam, get_or-append_seam}
+use Rattle.std.proofs.Math.Seq.{take-append-add, drop-append_seam}
 use Rattle.base_outside.specs.Whole.{TakesFront}
 use Rattle.journal_history.specs.declared.record.Record.{Record}
 use Rattle.journal_session.specs.Lines.{IsLine, lines_text}
@@ -12,20 +12,17 @@ use Rattle.journal_session.specs.Reader.{LineReaderView, to_come, IsNextLine, Is
 use Rattle.journal_session.specs.declared.next.Next.{Next}
 use Rattle.journal_session.specs.declared.next.Next.TheVariants as next
 use Rattle.mesh.specs.Makers.{IsOfChores}
+use Rattle.play_names.specs.Holding.{Holding}
 use Rattle.play_script.specs.declared.script_line.ScriptLine.{ScriptLine}
 use Rattle.play_calls.specs.Logs.{LogView, new_log}
 use Rattle.play_model.specs.Lines.{Action, Line, Declares, Acts, Operates, line_of, actions_of, AreActions}
 use Rattle.play_model.specs.Actor.{last_of}
-use Rattle.play_model.specs.Actions.{ActorView, new_actor_view, has_names, kept_by, action_of, TakesIf, IsIdleActor}
+use Rattle.play_model.specs.Actions.{ActorView, has_names, kept_by, action_of, TakesIf, IsIdleActor}
 use Rattle.play_model.specs.KeptActor.{KeptActor}
-use Rattle.play_model.specs.Laws.{LedIsMade}
 use Rattle.play_model.specs.Scripts.{ScriptsArePlayable}
-use Rattle.play_threads.specs.Threads.{is_by, TakesOwn, HasDone}
-use Rattle.play_threads.proofs.ActorLaws.{done_first, done_next, done_follows, new_named}
-use Rattle.pipe_seats.specs.Piped.{PipesView, AreLater, AreResting, new_seats}
+use Rattle.pipe_seats.specs.Piped.{PipesView, AreLater, AreResting}
 use Rattle.pipe_seats.specs.LaterLaws.{later_same, later_on}
 use Rattle.pipe_seats.proofs.PipeLaws.{text_snoc}
-use Rattle.pipe_seats.proofs.SeatLaws.{fresh_rest}
 use Rattle.pipe_lead.specs.declared.answer.Answer.{Answer}
 use Rattle.pipe_lead.specs.declared.answer.Answer.TheVariants as answer
 use Rattle.pipe_lead.specs.declared.lead_end.LeadEnd.{LeadEnd}
@@ -33,6 +30,8 @@ use Rattle.pipe_lead.specs.declared.lead_end.LeadEnd.TheVariants as lead_end
 use Rattle.pipe_lead.specs.Inputs.{Step, Took, Passed, Refused, IsStepOf, TakesStep, IsAnsweredBy, IsTaken}
 use Rattle.pipe_lead.specs.Leads.{refusal_text, answer_text, AreTold, none, took, passed, refused, taken_in, AreStepsOf, IsWithRolls, no_line, its_line, one_roll, IsWritten}
 use Rattle.pipe_lead.specs.Leads.{IsAnsweredAs, IsAnswered, IsAnsweredInTime, tells_all, IsLong, EndsAt, HasLed, Leads, IfLasts, end_of}
+use Rattle.pipe_lead.specs.Begun.{IsBegun, HasDoneFrom, FollowsFrom}
+use Rattle.pipe_lead.proofs.DoneLaws.{done_first, done_line, done_follows, fresh_follows, begun_made}
 use Rattle.pipe_lead.proofs.TakeLaws.{IsOwnAction, own_by, own_action}
 
 -- ## One line more
@@ -57,49 +56,34 @@ taken_snoc (Took l ∷ steps) step = ap (λ ls. l ∷ ls) (taken_snoc steps step
 taken_snoc (Passed ∷ steps) step = taken_snoc steps step
 taken_snoc (Refused rule ∷ steps) step = taken_snoc steps step
 
-owns : (n : ℕ) (b : Bool) (o : Option (ℕ × Action)) (old new : KeptActor) → b ≡ true → TakesIf n o old new → TakesOwn b n o old new
-owns n true o old new e h = h
-owns n false o old new e h = absurd (cc e)
-
-done_line : (n : ℕ) (ls : List ScriptLine) (line : ScriptLine) (old new : KeptActor) → HasDone true n (actions_of 0 (map line_of ls)) old → is_by 0 (action_of (line_of line)) ≡ true
-    → TakesIf n (action_of (line_of line)) old new → HasDone true n (actions_of 0 (map line_of (ls ++ line ∷ []))) new
-done_line n ls line old new h own t =
-    let items : List ScriptLine = ls ++ line ∷ [] in
-    let low : length ls < length items = omega (arith, length-append ls (line ∷ [])) in
-    let all : take (length ls + 1) items ≡ items = take-append-add ls (line ∷ []) 1 in
-    let so : HasDone true n (actions_of 0 (map line_of (take (length ls) items))) old =
-    subst (λ (xs : List ScriptLine). HasDone true n (actions_of 0 (map line_of xs)) old) (sym (take-append_seam ls (line ∷ []))) h in
-    subst (λ (xs : List ScriptLine). HasDone true n (actions_of 0 (map line_of xs)) new) all
-    (done_next true n 0 items (length ls) line old new low (sym (get_or-append_seam ls line [] line)) so (owns n (is_by 0 (action_of (line_of line))) (action_of (line_of line)) old new own t))
-
-done_step : (n : ℕ) (steps : List Step) (text : List ℕ) (step : Step) (old new : KeptActor) → HasDone true n (actions_of 0 (map line_of (taken_in steps))) old → IsStepOf n text step
-    → TakesStep n step old new → HasDone true n (actions_of 0 (map line_of (taken_in (steps ++ step ∷ [])))) new
-done_step n steps text (Took line) old new h is t =
-    subst (λ (xs : List ScriptLine). HasDone true n (actions_of 0 (map line_of xs)) new) (sym (taken_snoc steps (Took line)))
-    (done_line n (taken_in steps) line old new h (own_by line is.is_own.own) t)
-done_step n steps text Passed old new h is t =
-    subst (λ (xs : List ScriptLine). HasDone true n (actions_of 0 (map line_of xs)) new) (sym (taken_snoc steps Passed ∙ append-nil (taken_in steps)))
-    (subst (λ (k : KeptActor). HasDone true n (actions_of 0 (map line_of (taken_in steps))) k) (sym t) h)
-done_step n steps text (Refused rule) old new h is t =
-    subst (λ (xs : List ScriptLine). HasDone true n (actions_of 0 (map line_of xs)) new) (sym (taken_snoc steps (Refused rule) ∙ append-nil (taken_in steps)))
-    (subst (λ (k : KeptActor). HasDone true n (actions_of 0 (map line_of (taken_in steps))) k) (sym t) h)
+done_step : (n : ℕ) (o : ActorView) (steps : List Step) (text : List ℕ) (step : Step) (old new : KeptActor) → HasDoneFrom o n (actions_of 0 (map line_of (taken_in steps))) old → IsStepOf n text step
+    → TakesStep n step old new → HasDoneFrom o n (actions_of 0 (map line_of (taken_in (steps ++ step ∷ [])))) new
+done_step n o steps text (Took line) old new h is t =
+    subst (λ (xs : List ScriptLine). HasDoneFrom o n (actions_of 0 (map line_of xs)) new) (sym (taken_snoc steps (Took line)))
+    (done_line n o (taken_in steps) line old new h (own_by line is.is_own.own) t)
+done_step n o steps text Passed old new h is t =
+    subst (λ (xs : List ScriptLine). HasDoneFrom o n (actions_of 0 (map line_of xs)) new) (sym (taken_snoc steps Passed ∙ append-nil (taken_in steps)))
+    (subst (λ (k : KeptActor). HasDoneFrom o n (actions_of 0 (map line_of (taken_in steps))) k) (sym t) h)
+done_step n o steps text (Refused rule) old new h is t =
+    subst (λ (xs : List ScriptLine). HasDoneFrom o n (actions_of 0 (map line_of xs)) new) (sym (taken_snoc steps (Refused rule) ∙ append-nil (taken_in steps)))
+    (subst (λ (k : KeptActor). HasDoneFrom o n (actions_of 0 (map line_of (taken_in steps))) k) (sym t) h)
 
 -- what is told of it
-told_step : (n : ℕ) (steps : List Step) (text : List ℕ) (step : Step) (of : Answer) (old new : KeptActor) (more : List Record) → AreTold n steps old text → IsAnsweredBy of step
-    → TakesStep n step old new → new.past ≡ old.past ++ more → AreTold n (steps ++ step ∷ []) new (text ++ answer_text of more)
-told_step n steps text (Took l) answer.Results old new more h a t e = took steps old new more text l h t e
-told_step n steps text (Took l) answer.Nothing old new more h a t e = absurd a
-told_step n steps text (Took l) (answer.Broken rule) old new more h a t e = absurd a
-told_step n steps text Passed answer.Nothing old new more h a t e =
-    subst (λ (k : KeptActor). AreTold n (steps ++ Passed ∷ []) k (text ++ [])) (sym t)
-    (subst (λ (x : List ℕ). AreTold n (steps ++ Passed ∷ []) old x) (sym (append-nil text)) (passed steps old text h))
-told_step n steps text Passed answer.Results old new more h a t e = absurd a
-told_step n steps text Passed (answer.Broken rule) old new more h a t e = absurd a
-told_step n steps text (Refused by) (answer.Broken rule) old new more h a t e =
-    subst (λ (k : KeptActor). AreTold n (steps ++ Refused by ∷ []) k (text ++ refusal_text rule)) (sym t)
-    (subst (λ (x : ℕ). AreTold n (steps ++ Refused by ∷ []) old (text ++ refusal_text x)) a (refused steps old text by h))
-told_step n steps text (Refused by) answer.Results old new more h a t e = absurd a
-told_step n steps text (Refused by) answer.Nothing old new more h a t e = absurd a
+told_step : (n : ℕ) (o : ActorView) (steps : List Step) (text : List ℕ) (step : Step) (of : Answer) (old new : KeptActor) (more : List Record) → AreTold n o steps old text → IsAnsweredBy of step
+    → TakesStep n step old new → new.past ≡ old.past ++ more → AreTold n o (steps ++ step ∷ []) new (text ++ answer_text of more)
+told_step n o steps text (Took l) answer.Results old new more h a t e = took steps old new more text l h t e
+told_step n o steps text (Took l) answer.Nothing old new more h a t e = absurd a
+told_step n o steps text (Took l) (answer.Broken rule) old new more h a t e = absurd a
+told_step n o steps text Passed answer.Nothing old new more h a t e =
+    subst (λ (k : KeptActor). AreTold n o (steps ++ Passed ∷ []) k (text ++ [])) (sym t)
+    (subst (λ (x : List ℕ). AreTold n o (steps ++ Passed ∷ []) old x) (sym (append-nil text)) (passed steps old text h))
+told_step n o steps text Passed answer.Results old new more h a t e = absurd a
+told_step n o steps text Passed (answer.Broken rule) old new more h a t e = absurd a
+told_step n o steps text (Refused by) (answer.Broken rule) old new more h a t e =
+    subst (λ (k : KeptActor). AreTold n o (steps ++ Refused by ∷ []) k (text ++ refusal_text rule)) (sym t)
+    (subst (λ (x : ℕ). AreTold n o (steps ++ Refused by ∷ []) old (text ++ refusal_text x)) a (refused steps old text by h))
+told_step n o steps text (Refused by) answer.Results old new more h a t e = absurd a
+told_step n o steps text (Refused by) answer.Nothing old new more h a t e = absurd a
 
 -- ## What is written
 front_after : (a b c : Option (List ℕ)) (xs ys : List ℕ) → Appends a b xs → TakesFront b c ys → TakesFront a c (xs ++ ys)
@@ -111,7 +95,7 @@ written_more false a b c xs ys h k = front_after a b c xs ys h k
 
 -- ## So far
 -- so many lines of the input were read
-pub record LedSoFar (n : ℕ) (actor : ActorView) (first now : PipesView) (given left before after : Option (List ℕ)) (whole : Bool) (count : ℕ) : Type 0 where
+pub record LedSoFar (n : ℕ) (o actor : ActorView) (first now : PipesView) (given left before after : Option (List ℕ)) (whole : Bool) (count : ℕ) : Type 0 where
   pub input : List (List ℕ)
   pub counted : length input ≡ count
   pub lines : List (List ℕ)
@@ -119,16 +103,17 @@ pub record LedSoFar (n : ℕ) (actor : ActorView) (first now : PipesView) (given
   pub steps : List Step
   pub read : Consumes given left (lines_text input)
   pub are : AreStepsOf n lines steps
-  pub done : HasDone true n (actions_of 0 (map line_of (taken_in steps))) (kept_by actor now.log)
+  pub done : HasDoneFrom o n (actions_of 0 (map line_of (taken_in steps))) (kept_by actor now.log)
   pub text : List ℕ
-  pub told : AreTold n steps (kept_by actor now.log) text
+  pub told : AreTold n o steps (kept_by actor now.log) text
   pub written : IsWritten whole before after text
   pub named : has_names actor ≡ true
   pub later : AreLater first now
   pub resting : AreResting first.seats → AreResting now.seats
 
-pub led_first : (n : ℕ) (v : ActorView) (s : PipesView) (given before : Option (List ℕ)) → 1 ≤ n → v ≡ new_actor_view true n → s.log ≡ new_log n true
-    → LedSoFar n v s s given given before before true 0
+pub led_first : (n : ℕ) (v : ActorView) (s : PipesView) (given before : Option (List ℕ)) → 1 ≤ n → IsBegun n v → s.log ≡ new_log n true
+    → LedSoFar n v v s s given given before before true 0
+unfolding actions_of
 led_first n v s given before some e f = record {
   input = [];
   counted = refl;
@@ -137,20 +122,20 @@ led_first n v s given before some e f = record {
   steps = [];
   read = Consumes-nil given;
   are = tt;
-  done = done_first true n 0 [] v s.log some e f;
+  done = done_first n v s.log some e f;
   text = [];
-  told = subst (λ (k : KeptActor). AreTold n [] k []) (sym (ap (λ (x : ActorView). kept_by x s.log) e ∙ ap (kept_by (new_actor_view true n)) f)) none;
+  told = subst (λ (k : KeptActor). AreTold n v [] k []) (sym (ap (kept_by v) f)) none;
   written = Appends-nil before;
-  named = ap has_names e ∙ new_named true n;
+  named = ap (λ (x : Option Holding). is_some x) e.holds;
   later = later_same s;
   resting = λ r. r;
 }
 
 -- one line was answered, of the input or put in
-led_more : (n : ℕ) (whole : Bool) (line : List ℕ) (v w : ActorView) (first s t : PipesView) (given mid left a b c : Option (List ℕ)) (count sum : ℕ) (input : List (List ℕ)) → s.log.nodes ≡ n
-    → (h : LedSoFar n v first s given mid a b true count) → IsAnsweredAs whole line v s w t b c → length input ≡ sum → IsWithRolls input (h.lines ++ line ∷ [])
-    → Consumes given left (lines_text input) → LedSoFar n w first t given left a c whole sum
-led_more n whole line v w first s t given mid left a b c count sum input nodes h k counted put_in read =
+led_more : (n : ℕ) (o : ActorView) (whole : Bool) (line : List ℕ) (v w : ActorView) (first s t : PipesView) (given mid left a b c : Option (List ℕ)) (count sum : ℕ) (input : List (List ℕ)) → s.log.nodes ≡ n
+    → (h : LedSoFar n o v first s given mid a b true count) → IsAnsweredAs whole line v s w t b c → length input ≡ sum → IsWithRolls input (h.lines ++ line ∷ [])
+    → Consumes given left (lines_text input) → LedSoFar n o w first t given left a c whole sum
+led_more n o whole line v w first s t given mid left a b c count sum input nodes h k counted put_in read =
     let taken : IsTaken n line k.of (kept_by v s.log) (kept_by w t.log) = subst (λ (m : ℕ). IsTaken m line k.of (kept_by v s.log) (kept_by w t.log)) nodes k.taken in
     let more : List Record = drop (length s.log.past) t.log.past in
     let past : t.log.past ≡ s.log.past ++ more =
@@ -163,26 +148,26 @@ led_more n whole line v w first s t given mid left a b c count sum input nodes h
       steps = h.steps ++ taken.step ∷ [];
       read = read;
       are = steps_snoc n h.lines h.steps line taken.step h.are taken.is;
-      done = done_step n h.steps line taken.step (kept_by v s.log) (kept_by w t.log) h.done taken.is taken.takes;
+      done = done_step n o h.steps line taken.step (kept_by v s.log) (kept_by w t.log) h.done taken.is taken.takes;
       text = h.text ++ answer_text k.of more;
-      told = told_step n h.steps h.text taken.step k.of (kept_by v s.log) (kept_by w t.log) more h.told taken.answered taken.takes past;
+      told = told_step n o h.steps h.text taken.step k.of (kept_by v s.log) (kept_by w t.log) more h.told taken.answered taken.takes past;
       written = written_more whole a b c h.text (answer_text k.of more) h.written k.written;
       named = k.named;
       later = later_on first s t h.later k.later;
       resting = λ r. k.resting;
     }
 
-pub led_next : (n : ℕ) (whole : Bool) (line : List ℕ) (v w : ActorView) (first s t : PipesView) (given mid left a b c : Option (List ℕ)) (count : ℕ) → s.log.nodes ≡ n
-    → LedSoFar n v first s given mid a b true count → IsAnsweredAs whole line v s w t b c → Consumes mid left (line ++ 10 ∷ []) → LedSoFar n w first t given left a c whole (count + 1)
-led_next n whole line v w first s t given mid left a b c count nodes h k read =
-    led_more n whole line v w first s t given mid left a b c count (count + 1) (h.input ++ line ∷ []) nodes h k (omega (arith, length-append h.input (line ∷ []), h.counted))
+pub led_next : (n : ℕ) (o : ActorView) (whole : Bool) (line : List ℕ) (v w : ActorView) (first s t : PipesView) (given mid left a b c : Option (List ℕ)) (count : ℕ) → s.log.nodes ≡ n
+    → LedSoFar n o v first s given mid a b true count → IsAnsweredAs whole line v s w t b c → Consumes mid left (line ++ 10 ∷ []) → LedSoFar n o w first t given left a c whole (count + 1)
+led_next n o whole line v w first s t given mid left a b c count nodes h k read =
+    led_more n o whole line v w first s t given mid left a b c count (count + 1) (h.input ++ line ∷ []) nodes h k (omega (arith, length-append h.input (line ∷ []), h.counted))
     (its_line h.input h.lines line h.put_in)
     (subst (λ (x : List ℕ). Consumes given left x) (text_snoc h.input line) (Consumes-trans given mid left (lines_text h.input) (line ++ 10 ∷ []) h.read read))
 
-pub led_rolled : (n : ℕ) (whole : Bool) (v w : ActorView) (first s t : PipesView) (given left a b c : Option (List ℕ)) (count : ℕ) → s.log.nodes ≡ n → LedSoFar n v first s given left a b true count
-    → IsAnsweredAs whole (codes "roll") v s w t b c → LedSoFar n w first t given left a c whole count
-led_rolled n whole v w first s t given left a b c count nodes h k =
-    led_more n whole (codes "roll") v w first s t given left left a b c count count h.input nodes h k h.counted (one_roll h.input h.lines h.put_in) h.read
+pub led_rolled : (n : ℕ) (o : ActorView) (whole : Bool) (v w : ActorView) (first s t : PipesView) (given left a b c : Option (List ℕ)) (count : ℕ) → s.log.nodes ≡ n → LedSoFar n o v first s given left a b true count
+    → IsAnsweredAs whole (codes "roll") v s w t b c → LedSoFar n o w first t given left a c whole count
+led_rolled n o whole v w first s t given left a b c count nodes h k =
+    led_more n o whole (codes "roll") v w first s t given left left a b c count count h.input nodes h k h.counted (one_roll h.input h.lines h.put_in) h.read
 
 -- ## At its end
 -- what a reader held when it was let go was read, too
@@ -192,9 +177,9 @@ let_go r q (Some x) None xs e h = absurd h
 let_go r q (Some x) (Some y) xs e h = ap (λ (l : List ℕ). l ++ x) (sym e) ∙ h ∙ sym (append_assoc xs q.held y)
 
 -- the lines were told whole, or a front of them where a write failed
-pub has_led : (end : LeadEnd) (n : ℕ) (v : ActorView) (first s : PipesView) (r q : LineReaderView) (given left a b : Option (List ℕ)) (count : ℕ) → r.held ≡ []
-    → (h : LedSoFar n v first s (to_come r given) (to_come q left) a b (tells_all end) count) → EndsAt end h.input q.held left → HasLed n v s.log given left a b end
-has_led end n v first s r q given left a b count e h ends = record {
+pub has_led : (end : LeadEnd) (n : ℕ) (o : ActorView) (v : ActorView) (first s : PipesView) (r q : LineReaderView) (given left a b : Option (List ℕ)) (count : ℕ) → r.held ≡ []
+    → (h : LedSoFar n o v first s (to_come r given) (to_come q left) a b (tells_all end) count) → EndsAt end h.input q.held left → HasLed n o v s.log given left a b end
+has_led end n o v first s r q given left a b count e h ends = record {
   input = h.input;
   lines = h.lines;
   put_in = h.put_in;
@@ -210,10 +195,10 @@ has_led end n v first s r q given left a b count e h ends = record {
 }
 
 -- some bytes more were read
-led_rest : (end : LeadEnd) (n : ℕ) (v : ActorView) (first s : PipesView) (r q p : LineReaderView) (given mid left a b : Option (List ℕ)) (count : ℕ) (bytes : List ℕ)
-    → tells_all end ≡ true → r.held ≡ [] → (h : LedSoFar n v first s (to_come r given) (to_come q mid) a b true count)
-    → Consumes (to_come q mid) (to_come p left) bytes → EndsAt end h.input (bytes ++ p.held) left → HasLed n v s.log given left a b end
-led_rest end n v first s r q p given mid left a b count bytes all e h more ends = record {
+led_rest : (end : LeadEnd) (n : ℕ) (o : ActorView) (v : ActorView) (first s : PipesView) (r q p : LineReaderView) (given mid left a b : Option (List ℕ)) (count : ℕ) (bytes : List ℕ)
+    → tells_all end ≡ true → r.held ≡ [] → (h : LedSoFar n o v first s (to_come r given) (to_come q mid) a b true count)
+    → Consumes (to_come q mid) (to_come p left) bytes → EndsAt end h.input (bytes ++ p.held) left → HasLed n o v s.log given left a b end
+led_rest end n o v first s r q p given mid left a b count bytes all e h more ends = record {
   input = h.input;
   lines = h.lines;
   put_in = h.put_in;
@@ -234,30 +219,30 @@ line_alone : (line : List ℕ) (p : LineReaderView) (left : Option (List ℕ)) �
 line_alone line p left one h = subst (λ (x : List ℕ). IsLine x) (sym (ap (λ (x : List ℕ). line ++ x) h.held ∙ append-nil line)) one
 
 -- where there is no next line; of an input that is counted anew no line comes too late
-pub ends_at : (of : Next) (end : LeadEnd) (line : List ℕ) (n : ℕ) (v : ActorView) (first s : PipesView) (r q p : LineReaderView) (given mid left a b : Option (List ℕ)) (count : ℕ) → r.held ≡ []
-    → LedSoFar n v first s (to_come r given) (to_come q mid) a b true count → q.taken ≡ 0 → IsNextLine of line q p mid left → end_of of ≡ Some end → IfLasts end (HasLed n v s.log given left a b end)
-ends_at next.Line end line n v first s r q p given mid left a b count e h z k is = absurd (cc is)
-ends_at next.Last end line n v first s r q p given mid left a b count e h z k is =
+pub ends_at : (of : Next) (end : LeadEnd) (line : List ℕ) (n : ℕ) (o : ActorView) (v : ActorView) (first s : PipesView) (r q p : LineReaderView) (given mid left a b : Option (List ℕ)) (count : ℕ) → r.held ≡ []
+    → LedSoFar n o v first s (to_come r given) (to_come q mid) a b true count → q.taken ≡ 0 → IsNextLine of line q p mid left → end_of of ≡ Some end → IfLasts end (HasLed n o v s.log given left a b end)
+ends_at next.Line end line n o v first s r q p given mid left a b count e h z k is = absurd (cc is)
+ends_at next.Last end line n o v first s r q p given mid left a b count e h z k is =
     let same : lead_end.Done ≡ end = cc is in
-    subst (λ (x : LeadEnd). IfLasts x (HasLed n v s.log given left a b x)) same
-    (led_rest lead_end.Done n v first s r q p given mid left a b count line refl e h k.0.given (line_alone line p left k.0.one k.2, k.2.end))
-ends_at next.End end line n v first s r q p given mid left a b count e h z k is =
+    subst (λ (x : LeadEnd). IfLasts x (HasLed n o v s.log given left a b x)) same
+    (led_rest lead_end.Done n o v first s r q p given mid left a b count line refl e h k.0.given (line_alone line p left k.0.one k.2, k.2.end))
+ends_at next.End end line n o v first s r q p given mid left a b count e h z k is =
     let same : lead_end.Done ≡ end = cc is in
-    subst (λ (x : LeadEnd). IfLasts x (HasLed n v s.log given left a b x)) same
-    (led_rest lead_end.Done n v first s r q p given mid left a b count [] refl e h k.0.given (line_alone [] p left tt k.1, k.1.end))
-ends_at next.LongLine end line n v first s r q p given mid left a b count e h z k is =
+    subst (λ (x : LeadEnd). IfLasts x (HasLed n o v s.log given left a b x)) same
+    (led_rest lead_end.Done n o v first s r q p given mid left a b count [] refl e h k.0.given (line_alone [] p left tt k.1, k.1.end))
+ends_at next.LongLine end line n o v first s r q p given mid left a b count e h z k is =
     let same : lead_end.LongLine ≡ end = cc is in
     let long : IsLong p.held = record { front = k.1.front; behind = k.1.behind; spelled = k.1.spelled; one = k.1.one; long = k.1.long } in
-    subst (λ (x : LeadEnd). IfLasts x (HasLed n v s.log given left a b x)) same
-    (led_rest lead_end.LongLine n v first s r q p given mid left a b count [] refl e h k.0.given (inl long))
-ends_at next.LongInput end line n v first s r q p given mid left a b count e h z k is = absurd (omega (arith, z, k.0.taken, k.0.all, k.1.short))
-ends_at next.ReadFault end line n v first s r q p given mid left a b count e h z k is =
+    subst (λ (x : LeadEnd). IfLasts x (HasLed n o v s.log given left a b x)) same
+    (led_rest lead_end.LongLine n o v first s r q p given mid left a b count [] refl e h k.0.given (inl long))
+ends_at next.LongInput end line n o v first s r q p given mid left a b count e h z k is = absurd (omega (arith, z, k.0.taken, k.0.all, k.1.short))
+ends_at next.ReadFault end line n o v first s r q p given mid left a b count e h z k is =
     let same : lead_end.ReadFault ≡ end = cc is in
-    subst (λ (x : LeadEnd). IfLasts x (HasLed n v s.log given left a b x)) same
-    (led_rest lead_end.ReadFault n v first s r q p given mid left a b count [] refl e h k.0.given k.1.one)
-ends_at next.OutOfMemory end line n v first s r q p given mid left a b count e h z k is =
+    subst (λ (x : LeadEnd). IfLasts x (HasLed n o v s.log given left a b x)) same
+    (led_rest lead_end.ReadFault n o v first s r q p given mid left a b count [] refl e h k.0.given k.1.one)
+ends_at next.OutOfMemory end line n o v first s r q p given mid left a b count e h z k is =
     let same : lead_end.OutOfMemory ≡ end = cc is in
-    subst (λ (x : LeadEnd). IfLasts x (HasLed n v s.log given left a b x)) same tt
+    subst (λ (x : LeadEnd). IfLasts x (HasLed n o v s.log given left a b x)) same tt
 
 pub later_at : (end : LeadEnd) (first s : PipesView) → AreLater first s → IfLasts end (AreLater first s)
 later_at lead_end.Done first s h = h
@@ -267,26 +252,26 @@ later_at lead_end.WriteFault first s h = h
 later_at lead_end.OutOfMemory first s h = tt
 
 -- where a line ends it
-pub ends_with : (of : LeadEnd) (line : List ℕ) (n : ℕ) (v w : ActorView) (first s t : PipesView) (r q p : LineReaderView) (given mid left a b c : Option (List ℕ)) (count : ℕ) → r.held ≡ []
-    → s.log.nodes ≡ n → LedSoFar n v first s (to_come r given) (to_come q mid) a b true count → IsAnswered (Some of) line v s w t b c
-    → Consumes (to_come q mid) (to_come p left) (line ++ 10 ∷ []) → IfLasts of (HasLed n w t.log given left a c of)
-ends_with lead_end.Done line n v w first s t r q p given mid left a b c count e nodes h k read = absurd k
-ends_with lead_end.LongLine line n v w first s t r q p given mid left a b c count e nodes h k read = absurd k
-ends_with lead_end.ReadFault line n v w first s t r q p given mid left a b c count e nodes h k read = absurd k
-ends_with lead_end.WriteFault line n v w first s t r q p given mid left a b c count e nodes h k read =
-    has_led lead_end.WriteFault n w first t r p given left a c (count + 1) e
-    (led_next n false line v w first s t (to_come r given) (to_come q mid) (to_come p left) a b c count nodes h k read) tt
-ends_with lead_end.OutOfMemory line n v w first s t r q p given mid left a b c count e nodes h k read = tt
+pub ends_with : (of : LeadEnd) (line : List ℕ) (n : ℕ) (o : ActorView) (v w : ActorView) (first s t : PipesView) (r q p : LineReaderView) (given mid left a b c : Option (List ℕ)) (count : ℕ) → r.held ≡ []
+    → s.log.nodes ≡ n → LedSoFar n o v first s (to_come r given) (to_come q mid) a b true count → IsAnswered (Some of) line v s w t b c
+    → Consumes (to_come q mid) (to_come p left) (line ++ 10 ∷ []) → IfLasts of (HasLed n o w t.log given left a c of)
+ends_with lead_end.Done line n o v w first s t r q p given mid left a b c count e nodes h k read = absurd k
+ends_with lead_end.LongLine line n o v w first s t r q p given mid left a b c count e nodes h k read = absurd k
+ends_with lead_end.ReadFault line n o v w first s t r q p given mid left a b c count e nodes h k read = absurd k
+ends_with lead_end.WriteFault line n o v w first s t r q p given mid left a b c count e nodes h k read =
+    has_led lead_end.WriteFault n o w first t r p given left a c (count + 1) e
+    (led_next n o false line v w first s t (to_come r given) (to_come q mid) (to_come p left) a b c count nodes h k read) tt
+ends_with lead_end.OutOfMemory line n o v w first s t r q p given mid left a b c count e nodes h k read = tt
 
 -- where the roll that is put in ends it
-pub ends_rolled : (of : LeadEnd) (n : ℕ) (v w : ActorView) (first s t : PipesView) (r q : LineReaderView) (given left a b c : Option (List ℕ)) (count : ℕ) → r.held ≡ [] → s.log.nodes ≡ n
-    → LedSoFar n v first s (to_come r given) (to_come q left) a b true count → IsAnswered (Some of) (codes "roll") v s w t b c → IfLasts of (HasLed n w t.log given left a c of)
-ends_rolled lead_end.Done n v w first s t r q given left a b c count e nodes h k = absurd k
-ends_rolled lead_end.LongLine n v w first s t r q given left a b c count e nodes h k = absurd k
-ends_rolled lead_end.ReadFault n v w first s t r q given left a b c count e nodes h k = absurd k
-ends_rolled lead_end.WriteFault n v w first s t r q given left a b c count e nodes h k =
-    has_led lead_end.WriteFault n w first t r q given left a c count e (led_rolled n false v w first s t (to_come r given) (to_come q left) a b c count nodes h k) tt
-ends_rolled lead_end.OutOfMemory n v w first s t r q given left a b c count e nodes h k = tt
+pub ends_rolled : (of : LeadEnd) (n : ℕ) (o : ActorView) (v w : ActorView) (first s t : PipesView) (r q : LineReaderView) (given left a b c : Option (List ℕ)) (count : ℕ) → r.held ≡ [] → s.log.nodes ≡ n
+    → LedSoFar n o v first s (to_come r given) (to_come q left) a b true count → IsAnswered (Some of) (codes "roll") v s w t b c → IfLasts of (HasLed n o w t.log given left a c of)
+ends_rolled lead_end.Done n o v w first s t r q given left a b c count e nodes h k = absurd k
+ends_rolled lead_end.LongLine n o v w first s t r q given left a b c count e nodes h k = absurd k
+ends_rolled lead_end.ReadFault n o v w first s t r q given left a b c count e nodes h k = absurd k
+ends_rolled lead_end.WriteFault n o v w first s t r q given left a b c count e nodes h k =
+    has_led lead_end.WriteFault n o w first t r q given left a c count e (led_rolled n o false v w first s t (to_come r given) (to_come q left) a b c count nodes h k) tt
+ends_rolled lead_end.OutOfMemory n o v w first s t r q given left a b c count e nodes h k = tt
 
 pub later_with : (of : LeadEnd) (line : List ℕ) (v w : ActorView) (first s t : PipesView) (b c : Option (List ℕ)) → AreLater first s
     → IsAnswered (Some of) line v s w t b c → IfLasts of (AreLater first t)
@@ -374,19 +359,19 @@ pub ruleset in_time = (answered_idle, answered_named, not_rolled, rolled)
 abbrev pub fresh_reader : LineReaderView
 fresh_reader = record { held = []; taken = 0; line = [] }
 
-pub lines_first : (v : ActorView) (s : PipesView) (r : LineReaderView) (given before : Option (List ℕ)) → 1 ≤ s.log.nodes → v ≡ new_actor_view true s.log.nodes
+pub lines_first : (v : ActorView) (s : PipesView) (r : LineReaderView) (given before : Option (List ℕ)) → 1 ≤ s.log.nodes → IsBegun s.log.nodes v
     → s.log ≡ new_log s.log.nodes true → r.held ≡ []
-    → LedSoFar s.log.nodes v s s (to_come fresh_reader given) (to_come r given) before before true 0
+    → LedSoFar s.log.nodes v v s s (to_come fresh_reader given) (to_come r given) before before true 0
 lines_first v s r given before some e f none_held =
-    subst (λ (x : Option (List ℕ)). LedSoFar s.log.nodes v s s (to_come fresh_reader given) x before before true 0) (ap (λ (l : List ℕ). prepend_known l given) (sym none_held))
+    subst (λ (x : Option (List ℕ)). LedSoFar s.log.nodes v v s s (to_come fresh_reader given) x before before true 0) (ap (λ (l : List ℕ). prepend_known l given) (sym none_held))
     (led_first s.log.nodes v s (to_come fresh_reader given) before some e f)
 
-pub so_idle : (v : ActorView) (first s : PipesView) (given left a b : Option (List ℕ)) (count : ℕ) → LedSoFar first.log.nodes v first s given left a b true count
+pub so_idle : (o v : ActorView) (first s : PipesView) (given left a b : Option (List ℕ)) (count : ℕ) → LedSoFar first.log.nodes o v first s given left a b true count
     → IsIdleActor s.log.nodes (kept_by v s.log)
-so_idle v first s given left a b count h = subst (λ (n : ℕ). IsIdleActor n (kept_by v s.log)) (sym h.later.nodes) h.done.idle
+so_idle o v first s given left a b count h = subst (λ (n : ℕ). IsIdleActor n (kept_by v s.log)) (sym h.later.nodes) h.done.idle
 
-pub so_named : (v : ActorView) (first s : PipesView) (given left a b : Option (List ℕ)) (count : ℕ) → LedSoFar first.log.nodes v first s given left a b true count → has_names v ≡ true
-so_named v first s given left a b count h = h.named
+pub so_named : (o v : ActorView) (first s : PipesView) (given left a b : Option (List ℕ)) (count : ℕ) → LedSoFar first.log.nodes o v first s given left a b true count → has_names v ≡ true
+so_named o v first s given left a b count h = h.named
 
 -- a line came
 line_came : (of : Next) (line : List ℕ) (q p : LineReaderView) (mid left : Option (List ℕ)) → end_of of ≡ None → IsNextLine of line q p mid left → IsNextLine next.Line line q p mid left
@@ -404,70 +389,72 @@ given_line of line q p mid left k e is =
     subst (λ (l : List ℕ). Consumes (to_come q mid) (to_come p left) (l ++ 10 ∷ [])) (sym is) (line_came of p.line q p mid left e k).given
 
 -- one line more, and maybe a roll behind it
-pub lines_next : (of : Next) (line : List ℕ) (v w : ActorView) (first s t : PipesView) (q p n : LineReaderView) (given mid left a b c : Option (List ℕ)) (count : ℕ)
-    → LedSoFar first.log.nodes v first s (to_come fresh_reader given) (to_come q mid) a b true count → IsNextLine of p.line q p mid left → end_of of ≡ None
+pub lines_next : (of : Next) (line : List ℕ) (o v w : ActorView) (first s t : PipesView) (q p n : LineReaderView) (given mid left a b c : Option (List ℕ)) (count : ℕ)
+    → LedSoFar first.log.nodes o v first s (to_come fresh_reader given) (to_come q mid) a b true count → IsNextLine of p.line q p mid left → end_of of ≡ None
     → n.held ≡ p.held → line ≡ p.line → IsAnsweredInTime None line v s w t b c
-    → LedSoFar first.log.nodes w first t (to_come fresh_reader given) (to_come n left) a c true (count + 1)
-lines_next of line v w first s t q p n given mid left a b c count h k came held is answered =
-    subst (λ (l : List ℕ). LedSoFar first.log.nodes w first t (to_come fresh_reader given) (prepend_known l left) a c true (count + 1)) (sym held) (by answered)
+    → LedSoFar first.log.nodes o w first t (to_come fresh_reader given) (to_come n left) a c true (count + 1)
+lines_next of line o v w first s t q p n given mid left a b c count h k came held is answered =
+    subst (λ (l : List ℕ). LedSoFar first.log.nodes o w first t (to_come fresh_reader given) (prepend_known l left) a c true (count + 1)) (sym held) (by answered)
   where
     taken : Consumes (to_come q mid) (to_come p left) (line ++ 10 ∷ [])
     taken = given_line of line q p mid left k came is
 
-    by : IsAnsweredInTime None line v s w t b c → LedSoFar first.log.nodes w first t (to_come fresh_reader given) (to_come p left) a c true (count + 1)
+    by : IsAnsweredInTime None line v s w t b c → LedSoFar first.log.nodes o w first t (to_come fresh_reader given) (to_come p left) a c true (count + 1)
     by (inl one) =
-        led_next first.log.nodes true line v w first s t (to_come fresh_reader given) (to_come q mid) (to_come p left) a b c count h.later.nodes h one taken
+        led_next first.log.nodes o true line v w first s t (to_come fresh_reader given) (to_come q mid) (to_come p left) a b c count h.later.nodes h one taken
     by (inr two) =
-        let so = led_next first.log.nodes true line v two.actor first s two.seats (to_come fresh_reader given) (to_come q mid) (to_come p left) a b two.told count h.later.nodes h two.first taken in
-        led_rolled first.log.nodes true two.actor w first two.seats t (to_come fresh_reader given) (to_come p left) a two.told c (count + 1) so.later.nodes so two.roll
+        let so = led_next first.log.nodes o true line v two.actor first s two.seats (to_come fresh_reader given) (to_come q mid) (to_come p left) a b two.told count h.later.nodes h two.first taken in
+        led_rolled first.log.nodes o true two.actor w first two.seats t (to_come fresh_reader given) (to_come p left) a two.told c (count + 1) so.later.nodes so two.roll
 
 -- no line more
-pub lines_end : (of : Next) (end : LeadEnd) (line : List ℕ) (v : ActorView) (first s : PipesView) (q p : LineReaderView) (given mid left a b : Option (List ℕ)) (count : ℕ)
-    → LedSoFar first.log.nodes v first s (to_come fresh_reader given) (to_come q mid) a b true count → q.taken ≡ 0 → IsNextLine of line q p mid left → end_of of ≡ Some end
-    → IfLasts end (HasLed first.log.nodes v s.log given left a b end)
-lines_end of end line v first s q p given mid left a b count h z k is = ends_at of end line first.log.nodes v first s fresh_reader q p given mid left a b count refl h z k is
+pub lines_end : (of : Next) (end : LeadEnd) (line : List ℕ) (o v : ActorView) (first s : PipesView) (q p : LineReaderView) (given mid left a b : Option (List ℕ)) (count : ℕ)
+    → LedSoFar first.log.nodes o v first s (to_come fresh_reader given) (to_come q mid) a b true count → q.taken ≡ 0 → IsNextLine of line q p mid left → end_of of ≡ Some end
+    → IfLasts end (HasLed first.log.nodes o v s.log given left a b end)
+lines_end of end line o v first s q p given mid left a b count h z k is = ends_at of end line first.log.nodes o v first s fresh_reader q p given mid left a b count refl h z k is
 
-pub lines_later : (end : LeadEnd) (v : ActorView) (first s : PipesView) (given left a b : Option (List ℕ)) (count : ℕ) → LedSoFar first.log.nodes v first s given left a b true count
+pub lines_later : (end : LeadEnd) (o v : ActorView) (first s : PipesView) (given left a b : Option (List ℕ)) (count : ℕ) → LedSoFar first.log.nodes o v first s given left a b true count
     → IfLasts end (AreLater first s)
-lines_later end v first s given left a b count h = later_at end first s h.later
+lines_later end o v first s given left a b count h = later_at end first s h.later
 
 -- a line, or the roll behind it, ends it
-pub lines_cut : (got : Next) (of : LeadEnd) (line : List ℕ) (v w : ActorView) (first s t : PipesView) (q p : LineReaderView) (given mid left a b c : Option (List ℕ)) (count : ℕ)
-    → LedSoFar first.log.nodes v first s (to_come fresh_reader given) (to_come q mid) a b true count → IsNextLine got p.line q p mid left → end_of got ≡ None → line ≡ p.line
-    → IsAnsweredInTime (Some of) line v s w t b c → IfLasts of (HasLed first.log.nodes w t.log given left a c of)
-lines_cut got of line v w first s t q p given mid left a b c count h k came is answered = by answered
+pub lines_cut : (got : Next) (of : LeadEnd) (line : List ℕ) (o v w : ActorView) (first s t : PipesView) (q p : LineReaderView) (given mid left a b c : Option (List ℕ)) (count : ℕ)
+    → LedSoFar first.log.nodes o v first s (to_come fresh_reader given) (to_come q mid) a b true count → IsNextLine got p.line q p mid left → end_of got ≡ None → line ≡ p.line
+    → IsAnsweredInTime (Some of) line v s w t b c → IfLasts of (HasLed first.log.nodes o w t.log given left a c of)
+lines_cut got of line o v w first s t q p given mid left a b c count h k came is answered = by answered
   where
     taken : Consumes (to_come q mid) (to_come p left) (line ++ 10 ∷ [])
     taken = given_line got line q p mid left k came is
 
-    by : IsAnsweredInTime (Some of) line v s w t b c → IfLasts of (HasLed first.log.nodes w t.log given left a c of)
-    by (inl one) = ends_with of line first.log.nodes v w first s t fresh_reader q p given mid left a b c count refl h.later.nodes h one taken
+    by : IsAnsweredInTime (Some of) line v s w t b c → IfLasts of (HasLed first.log.nodes o w t.log given left a c of)
+    by (inl one) = ends_with of line first.log.nodes o v w first s t fresh_reader q p given mid left a b c count refl h.later.nodes h one taken
     by (inr two) =
-        let so = led_next first.log.nodes true line v two.actor first s two.seats (to_come fresh_reader given) (to_come q mid) (to_come p left) a b two.told count h.later.nodes h two.first taken in
-        ends_rolled of first.log.nodes two.actor w first two.seats t fresh_reader p given left a two.told c (count + 1) refl so.later.nodes so two.roll
+        let so = led_next first.log.nodes o true line v two.actor first s two.seats (to_come fresh_reader given) (to_come q mid) (to_come p left) a b two.told count h.later.nodes h two.first taken in
+        ends_rolled of first.log.nodes o two.actor w first two.seats t fresh_reader p given left a two.told c (count + 1) refl so.later.nodes so two.roll
 
-pub lines_cut_later : (of : LeadEnd) (line : List ℕ) (v w : ActorView) (first s t : PipesView) (given left a b c : Option (List ℕ)) (count : ℕ)
-    → LedSoFar first.log.nodes v first s given left a b true count → IsAnsweredInTime (Some of) line v s w t b c → IfLasts of (AreLater first t)
-lines_cut_later of line v w first s t given left a b c count h (inl one) = later_with of line v w first s t b c h.later one
-lines_cut_later of line v w first s t given left a b c count h (inr two) =
+pub lines_cut_later : (of : LeadEnd) (line : List ℕ) (o v w : ActorView) (first s t : PipesView) (given left a b c : Option (List ℕ)) (count : ℕ)
+    → LedSoFar first.log.nodes o v first s given left a b true count → IsAnsweredInTime (Some of) line v s w t b c → IfLasts of (AreLater first t)
+lines_cut_later of line o v w first s t given left a b c count h (inl one) = later_with of line v w first s t b c h.later one
+lines_cut_later of line o v w first s t given left a b c count h (inr two) =
     later_with of (codes "roll") two.actor w first two.seats t two.told c (later_on first s two.seats h.later two.first.later) two.roll
 
 -- the lines that a process can count came to their end
-pub lines_out : (v : ActorView) (first s : PipesView) (q : LineReaderView) (given left a b : Option (List ℕ)) (count : ℕ)
-    → LedSoFar first.log.nodes v first s (to_come fresh_reader given) (to_come q left) a b true count → 2 ^ 64 ≤ count + 1
-    → HasLed first.log.nodes v s.log given left a b lead_end.LongLine
-lines_out v first s q given left a b count h many =
-    has_led lead_end.LongLine first.log.nodes v first s fresh_reader q given left a b count refl h (inr (omega (arith, many, h.counted)))
+pub lines_out : (o v : ActorView) (first s : PipesView) (q : LineReaderView) (given left a b : Option (List ℕ)) (count : ℕ)
+    → LedSoFar first.log.nodes o v first s (to_come fresh_reader given) (to_come q left) a b true count → 2 ^ 64 ≤ count + 1
+    → HasLed first.log.nodes o v s.log given left a b lead_end.LongLine
+lines_out o v first s q given left a b count h many =
+    has_led lead_end.LongLine first.log.nodes o v first s fresh_reader q given left a b count refl h (inr (omega (arith, many, h.counted)))
 
-pub lines_out_later : (v : ActorView) (first s : PipesView) (given left a b : Option (List ℕ)) (count : ℕ) → LedSoFar first.log.nodes v first s given left a b true count → AreLater first s
-lines_out_later v first s given left a b count h = h.later
+pub lines_out_later : (o v : ActorView) (first s : PipesView) (given left a b : Option (List ℕ)) (count : ℕ) → LedSoFar first.log.nodes o v first s given left a b true count → AreLater first s
+lines_out_later o v first s given left a b count h = h.later
 
 pub ruleset line_by_line = (lines_first, so_idle, so_named, lines_next, lines_end, lines_later, lines_cut, lines_cut_later, lines_out, lines_out_later)
 
 -- ## A whole life
-pub leads : (end : LeadEnd) (n : ℕ) (v : ActorView) (l : LogView) (given left a b : Option (List ℕ)) → HasLed n v l given left a b end → Leads n l given left a b end
-leads end n v l given left a b h =
-    record { actor = v; has = h; last = last_of v.holds; follows = done_follows true n (actions_of 0 (map line_of (taken_in h.steps))) v l (last_of v.holds) h.done refl }
+pub leads : (end : LeadEnd) (n : ℕ) (o v : ActorView) (l : LogView) (given left a b : Option (List ℕ)) → HasLed n o v l given left a b end → Leads n o v l given left a b end
+leads end n o v l given left a b h =
+    let ds : List Action = actions_of 0 (map line_of (taken_in h.steps)) in
+    let f : FollowsFrom o n ds l.past l.marks (last_of v.holds) = done_follows n o ds v l h.done in
+    record { has = h; last = last_of v.holds; follows = f; fresh = fresh_follows n o ds l.past l.marks (last_of v.holds) f }
 
 actions_more : (l : Line) (ls : List Line) → IsOwnAction true (action_of l) → AreActions true (actions_of 0 ls) → AreActions true (actions_of 0 (l ∷ ls))
 unfolding AreActions actions_of
@@ -491,19 +478,9 @@ are_actions n (l ∷ lines) (Took line ∷ steps) playable h = actions_more (lin
 are_actions n (l ∷ lines) (Passed ∷ steps) playable h = are_actions n lines steps playable h.1
 are_actions n (l ∷ lines) (Refused rule ∷ steps) playable h = are_actions n lines steps playable h.1
 
-pub led_made : (end : LeadEnd) (n : ℕ) (l : LogView) (given left a b : Option (List ℕ)) → ScriptsArePlayable → LedIsMade → Leads n l given left a b end → IsOfChores n l.past
-led_made end n l given left a b playable law h =
-    law true n (actions_of 0 (map line_of (taken_in h.has.steps))) l.past (are_actions n h.has.lines h.has.steps playable h.has.are) (h.follows (record { name = []; last = h.last }) refl).led
-
--- ## A life that begins
-pub begun_some : (s : PipesView) (n life : ℕ) → s ≡ new_seats n life → 1 ≤ n → 1 ≤ s.log.nodes
-begun_some s n life e some = subst (λ (x : PipesView). 1 ≤ x.log.nodes) (sym e) some
-
-pub begun_new : (v : ActorView) (s : PipesView) (n life : ℕ) → s ≡ new_seats n life → v ≡ new_actor_view true n → v ≡ new_actor_view true s.log.nodes
-begun_new v s n life e new = new ∙ ap (λ (x : PipesView). new_actor_view true x.log.nodes) (sym e)
-
-pub begun_log : (s : PipesView) (n life : ℕ) → s ≡ new_seats n life → s.log ≡ new_log s.log.nodes true
-begun_log s n life e = subst (λ (x : PipesView). x.log ≡ new_log x.log.nodes true) (sym e) refl
+led_made : (end : LeadEnd) (n : ℕ) (o v : ActorView) (l : LogView) (given left a b : Option (List ℕ)) → ScriptsArePlayable → IsBegun n o → Leads n o v l given left a b end → IsOfChores n l.past
+led_made end n o v l given left a b playable begun h =
+    begun_made n o (actions_of 0 (map line_of (taken_in h.has.steps))) l.past l.marks h.last begun (are_actions n h.has.lines h.has.steps playable h.has.are) h.follows
 
 -- what is known of each end that isn't for want of memory
 if_lasts : (of : LeadEnd) (P Q : Type 0) → (P → Q) → IfLasts of P → IfLasts of Q
@@ -513,26 +490,12 @@ if_lasts lead_end.ReadFault P Q f h = f h
 if_lasts lead_end.WriteFault P Q f h = f h
 if_lasts lead_end.OutOfMemory P Q f h = tt
 
-of_life : (of : LeadEnd) (s t : PipesView) (v : ActorView) (n life : ℕ) (given left a b : Option (List ℕ)) → s ≡ new_seats n life → IfLasts of (HasLed s.log.nodes v t.log given left a b of)
-    → IfLasts of (HasLed n v t.log given left a b of)
-of_life of s t v n life given left a b e h = subst (λ (x : PipesView). IfLasts of (HasLed x.log.nodes v t.log given left a b of)) e h
+pub life_leads : (of : LeadEnd) (n : ℕ) (o v : ActorView) (l : LogView) (given left a b : Option (List ℕ)) → IfLasts of (HasLed n o v l given left a b of) → IfLasts of (Leads n o v l given left a b of)
+life_leads of n o v l given left a b h = if_lasts of (HasLed n o v l given left a b of) (Leads n o v l given left a b of) (leads of n o v l given left a b) h
 
-pub life_leads : (of : LeadEnd) (s t : PipesView) (v : ActorView) (n life : ℕ) (given left a b : Option (List ℕ)) → s ≡ new_seats n life → IfLasts of (HasLed s.log.nodes v t.log given left a b of)
-    → IfLasts of (Leads n t.log given left a b of)
-life_leads of s t v n life given left a b e h =
-    if_lasts of (HasLed n v t.log given left a b of) (Leads n t.log given left a b of) (leads of n v t.log given left a b) (of_life of s t v n life given left a b e h)
+pub life_made : (of : LeadEnd) (n : ℕ) (o v : ActorView) (l : LogView) (given left a b : Option (List ℕ)) → ScriptsArePlayable → IsBegun n o → IfLasts of (HasLed n o v l given left a b of)
+    → IfLasts of (IsOfChores n l.past)
+life_made of n o v l given left a b playable begun h =
+    if_lasts of (HasLed n o v l given left a b of) (IsOfChores n l.past) (λ k. led_made of n o v l given left a b playable begun (leads of n o v l given left a b k)) h
 
-pub life_made : (of : LeadEnd) (s t : PipesView) (v : ActorView) (n life : ℕ) (given left a b : Option (List ℕ)) → ScriptsArePlayable → LedIsMade → s ≡ new_seats n life
-    → IfLasts of (HasLed s.log.nodes v t.log given left a b of) → IfLasts of (IsOfChores n t.log.past)
-life_made of s t v n life given left a b playable law e h =
-    if_lasts of (HasLed n v t.log given left a b of) (IsOfChores n t.log.past)
-    (λ k. led_made of n t.log given left a b playable law (leads of n v t.log given left a b k)) (of_life of s t v n life given left a b e h)
-
-pub life_piped : (of : LeadEnd) (s t : PipesView) (n life : ℕ) → s ≡ new_seats n life → IfLasts of (AreLater s t) → IfLasts of (AreLater (new_seats n life) t)
-life_piped of s t n life e h = subst (λ (x : PipesView). IfLasts of (AreLater x t)) e h
-
-pub life_rests : (of : LeadEnd) (s t : PipesView) (n life : ℕ) → s ≡ new_seats n life → IfLasts of (AreResting s.seats → AreResting t.seats) → IfLasts of (AreResting t.seats)
-life_rests of s t n life e h =
-    if_lasts of (AreResting s.seats → AreResting t.seats) (AreResting t.seats) (λ f. f (subst (λ (x : PipesView). AreResting x.seats) (sym e) (fresh_rest n life))) h
-
-pub ruleset whole_life = (begun_some, begun_new, begun_log, life_leads, life_made, life_piped, life_rests)
+pub ruleset whole_life = (life_leads, life_made)

@@ -1,3 +1,4 @@
+pub mod DoneLaws
 pub mod TextLaws
 pub mod TakeLaws
 pub mod LeadLaws

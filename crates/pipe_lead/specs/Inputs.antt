@@ -21,13 +21,13 @@ with_actor (word ∷ words) = word ∷ codes "a" ∷ words
 abbrev pub script_of : ℕ → List ℕ → List ℕ
 script_of nodes line = codes "names " ++ decimal nodes ++ (10 ∷ codes "name a" ++ 10 ∷ []) ++ joined (with_actor (words_of line)) ++ 10 ∷ []
 
--- The first actor's lines, of a kind that is neither about losses nor a trim: images are in memory,
--- and what a trim removes could be read by no later life.
+-- the first actor's lines, of a kind that isn't about losses
 abbrev pub may_be_taken : ScriptLine → Bool
 may_be_taken (line.Takeover actor) = actor == 0
 may_be_taken (line.Roll actor) = actor == 0
 may_be_taken (line.Close actor) = actor == 0
 may_be_taken (line.Edits actor edits) = actor == 0
+may_be_taken (line.Trim actor extra) = actor == 0
 may_be_taken (line.Tail actor) = actor == 0
 may_be_taken (line.Checkpoint actor) = actor == 0
 may_be_taken (line.Reload actor) = actor == 0

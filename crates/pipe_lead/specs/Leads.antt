@@ -13,13 +13,14 @@ use Rattle.play_calls.specs.Logs.{LogView, new_log}
 use Rattle.play_model.specs.Lines.{line_of, actions_of}
 use Rattle.play_model.specs.Actions.{ActorView, new_actor_view, has_names, kept_by}
 use Rattle.play_model.specs.KeptActor.{KeptActor}
-use Rattle.play_threads.specs.Threads.{HasDone, FollowsActions}
+use Rattle.play_threads.specs.Threads.{FollowsActions}
 use Rattle.ns_tree.specs.declared.end.LastSpace.{LastSpace}
 use Rattle.pipe_seats.specs.Piped.{PipesView, AreLater, AreResting}
 use Rattle.pipe_lead.specs.declared.answer.Answer.{Answer}
 use Rattle.pipe_lead.specs.declared.answer.Answer.TheVariants as answer
 use Rattle.pipe_lead.specs.declared.lead_end.LeadEnd.{LeadEnd}
 use Rattle.pipe_lead.specs.declared.lead_end.LeadEnd.TheVariants as lead_end
+use Rattle.pipe_lead.specs.Begun.{HasDoneFrom, FollowsFrom}
 use Rattle.pipe_lead.specs.Inputs.{Step, Took, Passed, Refused, IsStepOf, TakesStep, IsTaken}
 
 -- ## What is written
@@ -42,15 +43,15 @@ answer_text answer.Results more = results_text more
 answer_text answer.Nothing more = []
 answer_text (answer.Broken rule) more = refusal_text rule
 
--- Line by line, from an actor of so many nodes before its first line: what a line did to it, and the
--- results that were listed of one that was taken, or the rule that one broke.
-pub data AreTold (nodes : ℕ) : List Step → KeptActor → List ℕ → Type 0 where
-  none : AreTold nodes [] (kept_by (new_actor_view true nodes) (new_log nodes true)) []
-  took : (steps : List Step) (old new : KeptActor) (more : List Record) (text : List ℕ) (line : ScriptLine) → AreTold nodes steps old text → TakesStep nodes (Took line) old new
-      → new.past ≡ old.past ++ more → AreTold nodes (steps ++ Took line ∷ []) new (text ++ results_text more)
-  passed : (steps : List Step) (by : KeptActor) (text : List ℕ) → AreTold nodes steps by text → AreTold nodes (steps ++ Passed ∷ []) by text
-  refused : (steps : List Step) (by : KeptActor) (text : List ℕ) (rule : ℕ) → AreTold nodes steps by text
-      → AreTold nodes (steps ++ Refused rule ∷ []) by (text ++ refusal_text rule)
+-- Line by line, from an actor of so many nodes as it began: what a line did to it, and the results
+-- that were listed of one that was taken, or the rule that one broke.
+pub data AreTold (nodes : ℕ) (begun : ActorView) : List Step → KeptActor → List ℕ → Type 0 where
+  none : AreTold nodes begun [] (kept_by begun (new_log nodes true)) []
+  took : (steps : List Step) (old new : KeptActor) (more : List Record) (text : List ℕ) (line : ScriptLine) → AreTold nodes begun steps old text → TakesStep nodes (Took line) old new
+      → new.past ≡ old.past ++ more → AreTold nodes begun (steps ++ Took line ∷ []) new (text ++ results_text more)
+  passed : (steps : List Step) (by : KeptActor) (text : List ℕ) → AreTold nodes begun steps by text → AreTold nodes begun (steps ++ Passed ∷ []) by text
+  refused : (steps : List Step) (by : KeptActor) (text : List ℕ) (rule : ℕ) → AreTold nodes begun steps by text
+      → AreTold nodes begun (steps ++ Refused rule ∷ []) by (text ++ refusal_text rule)
 
 -- ## What was done
 -- the lines that were taken
@@ -132,7 +133,7 @@ EndsAt lead_end.OutOfMemory input rest left = Unit {0}
 -- Lines were read, and maybe some bytes after them. With some rolls put in, of each line something
 -- came; the actor did the actions of those that were taken, in order, by what it heard; and what
 -- was written is what was told of them, or a front of it where a write failed.
-pub record HasLed (nodes : ℕ) (actor : ActorView) (log : LogView) (given now : Option (List ℕ)) (before after : Option (List ℕ)) (end : LeadEnd) : Type 0 where
+pub record HasLed (nodes : ℕ) (begun actor : ActorView) (log : LogView) (given now : Option (List ℕ)) (before after : Option (List ℕ)) (end : LeadEnd) : Type 0 where
   pub input : List (List ℕ)
   pub lines : List (List ℕ)
   pub put_in : IsWithRolls input lines
@@ -141,17 +142,18 @@ pub record HasLed (nodes : ℕ) (actor : ActorView) (log : LogView) (given now :
   pub read : Consumes given now (lines_text input ++ rest)
   pub ends : EndsAt end input rest now
   pub are : AreStepsOf nodes lines steps
-  pub done : HasDone true nodes (actions_of 0 (map line_of (taken_in steps))) (kept_by actor log)
+  pub done : HasDoneFrom begun nodes (actions_of 0 (map line_of (taken_in steps))) (kept_by actor log)
   pub text : List ℕ
-  pub told : AreTold nodes steps (kept_by actor log) text
+  pub told : AreTold nodes begun steps (kept_by actor log) text
   pub written : IsWritten (tells_all end) before after text
 
--- and so its record is what such an actor lists, with what it holds at last
-pub record Leads (nodes : ℕ) (log : LogView) (given now : Option (List ℕ)) (before after : Option (List ℕ)) (end : LeadEnd) : Type 0 where
-  pub actor : ActorView
-  pub has : HasLed nodes actor log given now before after end
+-- And so its record is what such an actor lists, with what it holds at last; where it began with
+-- nothing, it is an actor of a script.
+pub record Leads (nodes : ℕ) (begun actor : ActorView) (log : LogView) (given now : Option (List ℕ)) (before after : Option (List ℕ)) (end : LeadEnd) : Type 0 where
+  pub has : HasLed nodes begun actor log given now before after end
   pub last : Option LastSpace
-  pub follows : FollowsActions true nodes (actions_of 0 (map line_of (taken_in has.steps))) log.past log.marks last
+  pub follows : FollowsFrom begun nodes (actions_of 0 (map line_of (taken_in has.steps))) log.past log.marks last
+  pub fresh : begun ≡ new_actor_view true nodes → FollowsActions true nodes (actions_of 0 (map line_of (taken_in has.steps))) log.past log.marks last
 
 -- but where memory ran out
 abbrev pub IfLasts : LeadEnd → Type 0 → Type 0
@@ -160,10 +162,6 @@ IfLasts lead_end.LongLine P = P
 IfLasts lead_end.ReadFault P = P
 IfLasts lead_end.WriteFault P = P
 IfLasts lead_end.OutOfMemory P = Unit {0}
-
-abbrev pub IfLed : LeadEnd × Option PipesView → (PipesView → Type 0) → Type 0
-IfLed (end, None) P = end ≡ lead_end.OutOfMemory
-IfLed (end, Some seats) P = IfLasts end (P seats)
 
 -- how the process ends where there is no next line
 abbrev pub end_of : Next → Option LeadEnd

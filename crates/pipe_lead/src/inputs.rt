@@ -33,8 +33,7 @@ fn is_silent(line: &[u8]) -> bool
     }
 }
 
-/// The line is the first actor's, and of a kind that is neither about losses nor a trim: images are
-/// in memory, and what a trim removes could be read by no later life.
+/// The line is the first actor's, and of a kind that isn't about losses.
 fn is_own(line: &ScriptLine) -> bool
     ensures { result ≡ may_be_taken line.now }
 {
@@ -44,6 +43,7 @@ fn is_own(line: &ScriptLine) -> bool
             | ScriptLine::Roll { actor: 0 }
             | ScriptLine::Close { actor: 0 }
             | ScriptLine::Edits { actor: 0, .. }
+            | ScriptLine::Trim { actor: 0, .. }
             | ScriptLine::Tail { actor: 0 }
             | ScriptLine::Checkpoint { actor: 0 }
             | ScriptLine::Reload { actor: 0 }

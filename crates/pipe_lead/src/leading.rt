@@ -2,10 +2,11 @@
 ghost use Rattle.std.specs.Prelude.{◌≡◌, ◌≢◌, ◌≤◌, true, OnOk, Some, codes, drop, length};
 ghost use Rattle.base_outside.specs.Faults.{Rose};
 ghost use Rattle.play_calls.specs.Logs.{new_log};
-ghost use Rattle.play_model.specs.Actions.{kept_by, has_names, new_actor_view, IsIdleActor};
+ghost use Rattle.play_model.specs.Actions.{kept_by, has_names, IsIdleActor};
 ghost use Rattle.mesh.specs.Makers.{IsOfChores};
-ghost use Rattle.pipe_seats.specs.Piped.{AreLater, AreResting, new_seats};
-ghost use Rattle.pipe_lead.specs.Leads.{HasLed, Leads, IfLasts, IfLed, IsAnswered, IsAnsweredInTime, answer_text, end_of};
+ghost use Rattle.pipe_seats.specs.Piped.{AreLater, AreResting};
+ghost use Rattle.pipe_lead.specs.Begun.{IsBegun};
+ghost use Rattle.pipe_lead.specs.Leads.{HasLed, Leads, IfLasts, IsAnswered, IsAnsweredInTime, answer_text, end_of};
 
 use crate::answer::Answer;
 use crate::inputs::take_input;
@@ -15,7 +16,7 @@ use base_outside::{Sink, Source, write_all};
 use journal_core::OutOfMemory;
 use journal_session::{LineReader, Next};
 use pipe_seats::{Opener, PipeSeats};
-use play_model::{Actor, an_actor_does_its_tasks, scripts_are_playable};
+use play_model::{Actor, scripts_are_playable};
 use std::alloc::Global;
 
 /// How much a segment's acceptance may grow to, by what `used_after` counts: with one line more it
@@ -185,9 +186,9 @@ pub fn lead_lines<
     sink: &mut P,
 ) -> LeadEnd
     requires some { 1 ≤ seats.old.log.nodes }
-    requires new { A.seen by.old ≡ new_actor_view true seats.old.log.nodes }
+    requires begun { IsBegun seats.old.log.nodes (A.seen by.old) }
     requires log { seats.old.log ≡ new_log seats.old.log.nodes true }
-    ensures led { IfLasts result (HasLed seats.old.log.nodes (A.seen by.new) seats.new.log (I.left source.old) (I.left source.new) (P.taken sink.old) (P.taken sink.new) result) }
+    ensures led { IfLasts result (HasLed seats.old.log.nodes (A.seen by.old) (A.seen by.new) seats.new.log (I.left source.old) (I.left source.new) (P.taken sink.old) (P.taken sink.new) result) }
     ensures later { IfLasts result (AreLater seats.old seats.new) }
     ensures resting { IfLasts result (AreResting seats.old.seats → AreResting seats.new.seats) }
     ensures read_fault { result ≡ LeadEnd.ReadFault → Rose (I.faults source.old) (I.faults source.new) }
@@ -216,37 +217,30 @@ pub fn lead_lines<
     LeadEnd::LongLine
 }
 
-/// A name node over so many nodes, in this life of its folder: the actor takes the lines of the
-/// source one by one, over pipes that `opener` opens. How it ended, and the seats, with what was
-/// listed; `None` where memory ran out before the first line.
+/// A whole life of a name node: the actor, as it begins, takes the lines of the source one by one,
+/// over these pipes. What it lists is what such an actor does with them, by what it heard, and its
+/// calls are those of some tasks and tails.
 #[tactic(auto, using(crate::proofs::LeadLaws::whole_life))]
 pub fn lead<A: Actor, S: Source + Drop, K: Sink + Drop, O: Opener<S, K> + Drop, I: Source, P: Sink>(
     alloc: Global,
-    nodes: usize,
-    life: u64,
-    opener: O,
+    by: &mut A,
+    seats: &mut PipeSeats<S, K, O>,
     source: &mut I,
     sink: &mut P,
-) -> (LeadEnd, Option<PipeSeats<S, K, O>>)
-    requires { 1 ≤ nodes }
-    ensures led { IfLed result (λ seats. Leads nodes seats.log (I.left source.old) (I.left source.new) (P.taken sink.old) (P.taken sink.new) result.0) }
-    ensures made { IfLed result (λ seats. IsOfChores nodes seats.log.past) }
-    ensures piped { IfLed result (λ seats. AreLater (new_seats nodes life) seats) }
-    ensures resting { IfLed result (λ seats. AreResting seats.seats) }
-    ensures read_fault { result.0 ≡ LeadEnd.ReadFault → Rose (I.faults source.old) (I.faults source.new) }
-    ensures no_read_fault { result.0 ≢ LeadEnd.ReadFault → I.faults source.new ≡ I.faults source.old }
-    ensures write_fault { result.0 ≡ LeadEnd.WriteFault → Rose (P.faults sink.old) (P.faults sink.new) }
-    ensures no_write_fault { result.0 ≢ LeadEnd.WriteFault → P.faults sink.new ≡ P.faults sink.old }
-    ensures handed { result.0 ≢ LeadEnd.WriteFault → P.kept_back sink.old ≡ 0 → P.kept_back sink.new ≡ 0 }
+) -> LeadEnd
+    requires some { 1 ≤ seats.old.log.nodes }
+    requires begun { IsBegun seats.old.log.nodes (A.seen by.old) }
+    requires log { seats.old.log ≡ new_log seats.old.log.nodes true }
+    ensures led { IfLasts result (Leads seats.old.log.nodes (A.seen by.old) (A.seen by.new) seats.new.log (I.left source.old) (I.left source.new) (P.taken sink.old) (P.taken sink.new) result) }
+    ensures made { IfLasts result (IsOfChores seats.old.log.nodes seats.new.log.past) }
+    ensures piped { IfLasts result (AreLater seats.old seats.new) }
+    ensures resting { IfLasts result (AreResting seats.old.seats → AreResting seats.new.seats) }
+    ensures read_fault { result ≡ LeadEnd.ReadFault → Rose (I.faults source.old) (I.faults source.new) }
+    ensures no_read_fault { result ≢ LeadEnd.ReadFault → I.faults source.new ≡ I.faults source.old }
+    ensures write_fault { result ≡ LeadEnd.WriteFault → Rose (P.faults sink.old) (P.faults sink.new) }
+    ensures no_write_fault { result ≢ LeadEnd.WriteFault → P.faults sink.new ≡ P.faults sink.old }
+    ensures handed { result ≢ LeadEnd.WriteFault → P.kept_back sink.old ≡ 0 → P.kept_back sink.new ≡ 0 }
 {
     scripts_are_playable();
-    an_actor_does_its_tasks();
-    let Ok(mut seats) = PipeSeats::new(alloc, nodes, life, opener) else {
-        return (LeadEnd::OutOfMemory, None);
-    };
-    let Ok(mut by) = A::new(alloc, true, nodes) else {
-        return (LeadEnd::OutOfMemory, None);
-    };
-    let end = lead_lines(alloc, &mut by, &mut seats, source, sink);
-    (end, Some(seats))
+    lead_lines(alloc, by, seats, source, sink)
 }

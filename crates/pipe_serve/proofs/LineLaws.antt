@@ -1,5 +1,5 @@
 -- One line of a session.
-use Rattle.std.proofs.Common.{ℕ, zero, suc, ◌≡◌, List, [], ◌∷◌, ◌++◌, Option, Some, None, ◌⊎◌, inl, inr, refl, sym, subst}
+use Rattle.std.proofs.Common.{ℕ, ◌≡◌, List, [], Option, Some, None, inl, inr, refl, sym, subst}
 use Rattle.std.specs.Prelude.{take}
 use Rattle.std.specs.Io.KnownBytes.{Appends}
 use Rattle.std.proofs.KnownBytes.{Appends-nil}
@@ -13,7 +13,7 @@ use Rattle.disk_node.specs.Node.{IsNoFault}
 use Rattle.pipe_seats.specs.Tagged.{IsTagged, tagged}
 use Rattle.pipe_serve.specs.declared.session_end.SessionEnd.{SessionEnd}
 use Rattle.pipe_serve.specs.declared.session_end.SessionEnd.TheVariants as session_end
-use Rattle.pipe_serve.specs.Sessions.{Answered, SinkUse, reply_line, refusal, IsAsked, IsAskedWell, IsFaultOf, IsServed, IsServedWell, IsCutShort, IsTurnedAway, IsUnwritten, IsFaulted, IsForgotten}
+use Rattle.pipe_serve.specs.Sessions.{SinkUse, reply_line, refusal, IsAsked, IsFaultOf, IsServed}
 
 -- nothing was written of a text
 pub front_none : (b : Option (List ℕ)) (bytes : List ℕ) → TakesFront b b bytes

@@ -1,5 +1,5 @@
 -- A session of tagged lines, call by call.
-use Rattle.std.proofs.Common.{ℕ, zero, suc, ◌≡◌, ◌<◌, ◌≤◌, ◌+◌, ◌-◌, ◌^◌, List, [], ◌∷◌, ◌++◌, length, Option, Some, None, ◌⊎◌, inl, inr, refl, sym, ap, ◌∙◌, subst, arith, append-nil, append_assoc, length-append}
+use Rattle.std.proofs.Common.{ℕ, zero, suc, ◌≡◌, ◌+◌, ◌-◌, ◌^◌, List, [], ◌∷◌, ◌++◌, length, Option, Some, None, inl, inr, refl, sym, ap, ◌∙◌, subst, arith, append-nil, append_assoc, length-append}
 use Rattle.std.specs.List.{flat_map}
 use Rattle.std.specs.Prelude.{take, IfSome}
 use Rattle.std.specs.Io.KnownBytes.{Appends, Consumes, prepend_known}
@@ -9,13 +9,12 @@ use Rattle.base_outside.specs.Faults.{Rose}
 use Rattle.base_outside.specs.Whole.{TakesFront}
 use Rattle.journal_core.specs.declared.request.Request.{Request}
 use Rattle.journal_core.specs.declared.reply.Reply.{Reply}
-use Rattle.journal_session.specs.Lines.{longest_line, longest_input}
 use Rattle.journal_session.specs.Reader.{LineReaderView, to_come, IsNextLine}
 use Rattle.journal_session.specs.declared.next.Next.{Next}
 use Rattle.journal_session.specs.declared.next.Next.TheVariants as next
 use Rattle.pipe_serve.specs.declared.session_end.SessionEnd.{SessionEnd}
 use Rattle.pipe_serve.specs.declared.session_end.SessionEnd.TheVariants as session_end
-use Rattle.pipe_serve.specs.Sessions.{Answered, SourceUse, SinkUse, end_of, told_at, asking_line, answering_line, IsAskedWell, AreAsked, EndsWith, IsServed, IsServedWell, IsCutShort, EndsBy, IsReadBy, IsSession}
+use Rattle.pipe_serve.specs.Sessions.{Answered, SourceUse, SinkUse, end_of, told_at, asking_line, answering_line, IsAskedWell, AreAsked, EndsWith, IsServed, EndsBy, IsReadBy, IsSession}
 
 -- ## Bytes that a reader holds
 nothing_held : (r : LineReaderView) (given : Option (List ℕ)) → r.held ≡ [] → Consumes given (to_come r given) []

@@ -1,2 +1,5 @@
 pub mod Sessions
 pub mod Serving
+pub mod Crashes
+pub mod Trails
+pub mod Numbers

@@ -28,12 +28,6 @@ pub record Leads (old new : Option NodeState) : Type 0 where
   pub calls : List (Request × Reply)
   pub answered : AreAnswered old calls new
 
--- what holds of the node whenever no client asks it: requests that were answered one after the
--- other led to it from the first state, and its disk doesn't fail if it didn't at first
-pub record IsLed {D : Type 0} (is_told : D → Bool) (view : D → View) (is_steady : D → Type 0) (first : Option NodeState) (was_steady : Type 0) (n : NodeParts D) : Type 0 where
-  pub leads : Leads first (state_told is_told view n)
-  pub steady : was_steady → is_steady n.disk
-
 -- what is known of an answer of the node: it is that of a node over such a disk, which the request
 -- brought on
 pub record IsSharedAnswer {D : Type 0} (tells : D → Type 0) (view : D → View) (was_steady : Type 0) (r : Request) (a : Reply) : Type 0 where

@@ -21,6 +21,8 @@ impl<R> ClientPipes<R> {
 }
 
 impl<R: Files + AllocGlobal> Ports<FileSource<R::File>, FileSink<R::File>> for ClientPipes<R> {
+    ghost are_of = { λ client source sink. Unit {0} };
+
     fn open(&self, client: usize) -> Option<(FileSource<R::File>, FileSink<R::File>)> {
         open_to_answer(&self.rt, FOLDER, client).ok()
     }

@@ -8,12 +8,12 @@ use std::marker::{Model, PhantomData};
 /// How a process is to end, once that is known: where the node's disk is one that doesn't fail, not
 /// with a fault of it.
 #[derive(Drop)]
-pub(crate) struct Ending<J: Origin> {
+pub(crate) struct Ending<D, J: Origin<D>> {
     end: Option<ServeEnd>,
-    of: PhantomData<J>,
+    of: PhantomData<(D, J)>,
 }
 
-impl<J: Origin> Model for Ending<J> {
+impl<D, J: Origin<D>> Model for Ending<D, J> {
     ghost use Rattle.std.specs.Prelude.{◌≢◌, Option, Some};
     ghost use Rattle.pipe_serve.specs.declared.served.ServeEnd.{ServeEnd as AnyEnd};
 
@@ -24,9 +24,9 @@ impl<J: Origin> Model for Ending<J> {
     ghost invariant = { λ e. J.steady → e.end ≢ Some AnyEnd.DiskFault };
 }
 
-impl<J: Origin> Ending<J> {
+impl<D, J: Origin<D>> Ending<D, J> {
     /// None is known.
-    pub(crate) fn new() -> Ending<J> {
+    pub(crate) fn new() -> Ending<D, J> {
         Ending {
             end: None,
             of: PhantomData,

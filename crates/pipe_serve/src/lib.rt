@@ -1,20 +1,24 @@
 //! A node in a process of its own: a session of tagged lines for each client, a thread each, at one
-//! node behind a lock.
+//! node behind a gate. Laws: how the numbers of a life's calls go with the lines that a node takes.
 #![tactic(auto)]
 
+mod client_cell;
 mod client_pipes;
 mod clients;
 mod ending;
+mod laws;
 mod origin;
 mod ports;
+mod seat_node;
 mod served;
+mod served_node;
 mod session;
 mod session_end;
 mod shared;
-mod shared_node;
 
 pub use client_pipes::ClientPipes;
 pub use clients::serve_clients;
+pub use laws::{calls_are_numbered, lines_keep_order, sessions_keep_order};
 pub use ports::Ports;
 pub use served::{ServeEnd, Served};
 pub use session::serve_session;

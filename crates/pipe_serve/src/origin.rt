@@ -1,20 +1,19 @@
 //! What a shared node began as.
-ghost use Rattle.std.specs.Prelude.{Option, None};
-ghost use Rattle.journal_core.specs.declared.node_state.NodeState.{NodeState};
-
 use std::marker::Brand;
 
 /// What a shared node began as. Each call that shares one picks it.
-pub(crate) trait Origin {
-    /// Its state, where it told it.
-    ghost first: { Option NodeState };
+pub(crate) trait Origin<D> {
+    ghost use Rattle.disk_node.specs.Node.{NodeParts};
+
+    /// It was this node.
+    ghost first: { NodeParts D → Type 0 };
 
     /// Its disk was one that doesn't fail.
     ghost steady: { Type 0 };
 }
 
-impl Origin for Brand {
-    ghost first = { None };
+impl<D> Origin<D> for Brand {
+    ghost first = { λ _. Unit {0} };
 
     ghost steady = { Unit {0} };
 }

@@ -1,19 +1,20 @@
 //! What a process's threads share.
-ghost use Rattle.std.specs.Prelude.{◌≡◌, ◌≢◌, Some};
+ghost use Rattle.std.specs.Prelude.{◌≡◌, ◌≢◌, Some, []};
 ghost use Rattle.pipe_serve.specs.declared.session_end.SessionEnd.{SessionEnd as AnyEnd};
-ghost use Rattle.pipe_serve.specs.Serving.{IsReadOut, IsSharedAnswer, Leads, state_told};
+ghost use Rattle.pipe_serve.specs.Serving.{IsReadOut, IsSharedAnswer};
 ghost use Rattle.pipe_serve.specs.Sessions.{IsSession, read_from, written_to};
+ghost use Rattle.pipe_serve.specs.Trails.{AreServed, IsAttended, IsSeatAnswer, at_pipes};
 
 use crate::ending::Ending;
 use crate::origin::Origin;
 use crate::ports::Ports;
+use crate::seat_node::{ClientSeat, NodeGate, SeatNode};
 use crate::served::ServeEnd;
+use crate::served_node::ServedNode;
 use crate::session::serve_session;
 use crate::session_end::SessionEnd;
-use crate::shared_node::{LockedNode, SharedNode};
 use base_disk::Disk;
 use base_outside::{Sink, Source};
-use disk_node::JournalNode;
 use std::alloc::Global;
 use std::sync::{Condvar, Mutex, Wait};
 use std::thread;
@@ -22,53 +23,52 @@ use std::time::{Clock, Duration};
 /// For how many milliseconds pipes that can't be opened are left alone.
 const PAUSE: u64 = 100;
 
-/// What all threads share: the node, and how the process is to end, once that is known.
+/// What all threads share: the gate of the node, and how the process is to end, once that is known.
 #[derive(Drop)]
-pub(crate) struct Shared<R, D: Disk, P, J: Origin> {
+pub(crate) struct Shared<R, D: Disk, P, J: Origin<D>> {
     pub(crate) rt: R,
     alloc: Global,
     ports: P,
-    node: Mutex<SharedNode<D, J>>,
-    ending: Mutex<Ending<J>>,
+    gate: NodeGate<D, J>,
+    ending: Mutex<Ending<D, J>>,
     ended: Condvar,
 }
 
-impl<R, D: Disk, P, J: Origin> Shared<R, D, P, J> {
-    /// A node that no client has asked.
-    pub(crate) fn new(rt: R, alloc: Global, node: JournalNode<D>, ports: P) -> Shared<R, D, P, J>
-        requires first { state_told D.is_told D.view node ≡ J.first }
-        requires steady { J.steady → D.steady node.disk }
+impl<R, D: Disk, P, J: Origin<D>> Shared<R, D, P, J> {
+    /// A node behind this gate.
+    pub(crate) fn new(rt: R, alloc: Global, gate: NodeGate<D, J>, ports: P) -> Shared<R, D, P, J>
+        ensures { result.gate ≡ gate }
     {
         Shared {
             rt,
             alloc,
             ports,
-            node: Mutex::new(SharedNode::new(node)),
+            gate,
             ending: Mutex::new(Ending::new()),
             ended: Condvar::new(),
         }
     }
 
-    /// The node, as the requests left it.
-    pub(crate) fn into_node(self) -> JournalNode<D>
+    /// The gate.
+    pub(crate) fn into_gate(self) -> NodeGate<D, J>
     where
         R: Drop,
         P: Drop,
-        ensures { Leads J.first (state_told D.is_told D.view result) }
+        ensures { result ≡ self.gate }
     {
         let Shared {
             rt: _,
             alloc: _,
             ports: _,
-            node,
+            gate,
             ending: _,
             ended: _,
         } = self;
-        node.into_inner().into_node()
+        gate
     }
 }
 
-impl<R: Wait, D: Disk, P, J: Origin> Shared<R, D, P, J> {
+impl<R: Wait, D: Disk, P, J: Origin<D>> Shared<R, D, P, J> {
     /// The process is to end so, unless it is to end otherwise already.
     pub(crate) fn end_with(&self, end: ServeEnd)
         requires { J.steady → end ≢ ServeEnd.DiskFault }
@@ -114,11 +114,11 @@ impl<R: Wait, D: Disk, P, J: Origin> Shared<R, D, P, J> {
     #[tactic(auto, using(crate::proofs::SharedLaws::sessions))]
     fn serve<S: Source, K: Sink>(
         &self,
-        node: &mut LockedNode<'_, R, D, J>,
+        node: &mut SeatNode<'_, R, ServedNode<D, J>>,
         source: &mut S,
         sink: &mut K,
     )
-        ensures { (end : AnyEnd) × IsSession (λ _ r a _. IsSharedAnswer D.tells D.view J.steady r a) end node.old node.new (read_from S.left S.faults source.old source.new) (written_to K.taken K.faults sink.old sink.new) }
+        ensures { (end : AnyEnd) × IsSession (IsSeatAnswer (IsSharedAnswer D.tells D.view J.steady)) end node.old node.new (read_from S.left S.faults source.old source.new) (written_to K.taken K.faults sink.old sink.new) }
     {
         match serve_session(self.alloc, node, source, sink) {
             SessionEnd::Over => {}
@@ -128,34 +128,60 @@ impl<R: Wait, D: Disk, P, J: Origin> Shared<R, D, P, J> {
     }
 }
 
-impl<R: Wait + Clock, D: Disk, P, J: Origin> Shared<R, D, P, J> {
+impl<R: Wait + Clock, D: Disk, P, J: Origin<D>> Shared<R, D, P, J> {
     /// One session of a client, where its pipes can be opened.
-    fn serve_once<S: Source + Drop, K: Sink + Drop>(&self, client: usize)
+    #[tactic(auto, using(crate::proofs::SharedLaws::served))]
+    fn serve_once<S: Source + Drop, K: Sink + Drop>(
+        &self,
+        client: usize,
+        node: &mut SeatNode<'_, R, ServedNode<D, J>>,
+    )
     where
         P: Ports<S, K>,
+        ensures { AreServed (IsSeatAnswer (IsSharedAnswer D.tells D.view J.steady)) (at_pipes P.are_of (read_from S.left S.faults) (written_to K.taken K.faults) client) node.old node.new }
     {
         match self.ports.open(client) {
-            Some((mut source, mut sink)) => {
-                let mut node = LockedNode::new(&self.rt, &self.node);
-                self.serve(&mut node, &mut source, &mut sink);
-            }
+            Some((mut source, mut sink)) => self.serve(node, &mut source, &mut sink),
             None => {
                 let _ = thread::sleep(&self.rt, Duration::from_millis(PAUSE));
             }
         }
     }
 
-    /// All sessions of a client, until the process is to end.
-    pub(crate) fn serve_client<S: Source + Drop, K: Sink + Drop>(&self, client: usize)
+    /// All sessions of a client at a node, until the process is to end.
+    #[tactic(auto, using(crate::proofs::SharedLaws::served))]
+    fn serve_sessions<S: Source + Drop, K: Sink + Drop>(
+        &self,
+        client: usize,
+        node: &mut SeatNode<'_, R, ServedNode<D, J>>,
+    )
     where
         P: Ports<S, K>,
+        ensures { AreServed (IsSeatAnswer (IsSharedAnswer D.tells D.view J.steady)) (at_pipes P.are_of (read_from S.left S.faults) (written_to K.taken K.faults) client) node.old node.new }
     {
         for _ in self.rt.forever() {
             if self.known_end().is_some() {
                 return;
             }
-            self.serve_once::<S, K>(client);
+            self.serve_once::<S, K>(client, node);
         }
+    }
+
+    /// All sessions of a client, with its seat, until the process is to end.
+    pub(crate) fn serve_client<S: Source + Drop, K: Sink + Drop>(
+        &self,
+        client: usize,
+        seat: ClientSeat<D, J>,
+    ) -> ClientSeat<D, J>
+    where
+        P: Ports<S, K>,
+        requires own { seat.seat.table_id ≡ self.now.gate.table.shared.table_id }
+        requires fresh { seat.seat.me.0.seen ≡ [] }
+        ensures { IsAttended (IsSharedAnswer D.tells D.view J.steady) (at_pipes P.are_of (read_from S.left S.faults) (written_to K.taken K.faults) client) seat.seat.table_id seat.caller result.seat.table_id result.caller result.seat.me.0.seen }
+    {
+        let mut node = SeatNode::new(&self.rt, &self.gate, seat);
+        self.serve_sessions::<S, K>(client, &mut node);
+        node.into_seat()
     }
 }
 

@@ -19,3 +19,4 @@ pub mod ClusterLaws
 pub mod PlayLaws
 pub mod NodesLeft
 pub mod ImagesLeft
+pub mod StandingLaws

@@ -1,6 +1,8 @@
 -- What contracts see of an actor, by what it is.
-use Rattle.std.specs.Prelude.{Some, None}
-use Rattle.writer_core.specs.Writer.{new_writer}
+use Rattle.std.specs.Prelude.{ℕ, ◌≡◌, List, Some, None, false}
+use Rattle.ns_edits.specs.Replay.{Image}
+use Rattle.writer_core.specs.Writer.{new_writer, is_writing}
+use Rattle.play_standby.specs.Standbys.{StandbyView, held}
 use Rattle.play_model.specs.Actions.{ActorView}
 use Rattle.play_actor.specs.declared.script_actor.Kind.{Kind}
 use Rattle.play_actor.specs.declared.script_actor.Kind.TheVariants as kind
@@ -9,3 +11,17 @@ abbrev pub seen_kind : Kind → ActorView
 seen_kind (kind.Raw writer) = record { writer = writer; holds = None }
 seen_kind (kind.Named node) = record { writer = node.writer; holds = Some node.holding }
 seen_kind kind.Spent = record { writer = new_writer 0; holds = None }
+
+-- one that begins as a standby which stands here, with these images
+abbrev pub begun_actor : ℕ → List Image → StandbyView → ActorView
+begun_actor nodes images s = record { writer = new_writer nodes; holds = Some (held images s) }
+
+-- it is this standby, with some images
+pub record IsStandbyAt (a : ActorView) (s : StandbyView) : Type 0 where
+  pub images : List Image
+  pub holds : a.holds ≡ Some (held images s)
+  pub rests : is_writing a.writer.phase ≡ false
+
+-- it is none
+abbrev pub IsNoStandby : ActorView → Type 0
+IsNoStandby a = (s : StandbyView) → IsStandbyAt a s → ⊥

@@ -2,7 +2,7 @@
 use Rattle.std.specs.Prelude.{ℕ, ◌≡◌, List, [], Bool, true, false, Some}
 use Rattle.ns_edits.specs.Replay.{Image}
 use Rattle.writer_core.specs.Views.{WriterView}
-use Rattle.writer_core.specs.Writer.{new_writer}
+use Rattle.writer_core.specs.Writer.{new_writer, is_writing}
 use Rattle.play_names.specs.Holding.{Holding, Broken, new_holding, with_work, reload_image}
 use Rattle.play_names.specs.declared.tailed.Tailed.{Tailed}
 use Rattle.play_names.specs.declared.tailed.Tailed.TheVariants as tailed
@@ -18,6 +18,20 @@ pub record NameView : Type 0 where
 
 abbrev pub new_name : ℕ → NameView
 new_name nodes = record { writer = new_writer nodes; holding = new_holding }
+
+-- it begins as a standby that stands here, with these images
+abbrev pub begun_name : ℕ → List Image → StandbyView → NameView
+begun_name nodes images s = record { writer = new_writer nodes; holding = held images s }
+
+-- it is this standby, with some images
+pub record RestsAt (n : NameView) (s : StandbyView) : Type 0 where
+  pub images : List Image
+  pub holding : n.holding ≡ held images s
+  pub rests : is_writing n.writer.phase ≡ false
+
+-- it is no standby: it holds an open segment, or met a bad entry
+abbrev pub RestsNowhere : NameView → Type 0
+RestsNowhere n = (s : StandbyView) → RestsAt n s → ⊥
 
 -- ## An active one
 -- it holds an open segment, no edit pends, and no round was aborted

@@ -1,11 +1,11 @@
 //! A name node of a script.
-ghost use Rattle.std.specs.Prelude.{◌≡◌, ◌≤◌, false, List, Some, IfOk};
+ghost use Rattle.std.specs.Prelude.{◌≡◌, ◌≤◌, false, List, Some, IfOk, MatchOption};
 ghost use Rattle.ns_edits.specs.Replay.{Image};
 ghost use Rattle.writer_core.specs.Writer.{is_writing};
 ghost use Rattle.play_names.specs.Holding.{Broken, with_work};
 ghost use Rattle.play_names.specs.ImageDisks.{HoldsOn};
 ghost use Rattle.play_standby.specs.Standbys.{held};
-ghost use Rattle.play_actor.specs.Nodes.{new_name, IsServing, standing};
+ghost use Rattle.play_actor.specs.Nodes.{new_name, begun_name, RestsAt, RestsNowhere, IsServing, standing};
 ghost use Rattle.play_actor.specs.Roles.{writer_in, holding_in, StandsIn};
 
 use crate::role::{Resting, Role};
@@ -52,6 +52,31 @@ impl NameNode {
         let standby = Standby::new(alloc)?;
         let images = SavedImages::new(alloc);
         Ok(NameNode::resting(Resting { writer, standby }, images))
+    }
+
+    /// A standby that stands here and has these images, with a writer of that many nodes.
+    pub(crate) fn begun(
+        alloc: Global,
+        nodes: usize,
+        standby: Standby,
+        images: SavedImages,
+    ) -> Result<NameNode, OutOfMemory>
+        requires { 1 ≤ nodes }
+        ensures { IfOk result (λ node. node ≡ begun_name nodes images standby) }
+    {
+        let writer = QuorumWriter::new(alloc, nodes)?;
+        Ok(NameNode::resting(Resting { writer, standby }, images))
+    }
+
+    /// The standby, where it is one: it holds no segment then, and met no bad entry.
+    #[tactic(auto, using(crate::proofs::StandingLaws::nowhere))]
+    pub(crate) fn standby(&self) -> Option<&Standby>
+        ensures { MatchOption result (RestsNowhere self.now) (λ standby. RestsAt self.now standby.now) }
+    {
+        match &self.role {
+            Role::Standby(resting) => Some(&resting.standby),
+            Role::Active(_) | Role::Broken(_) => None,
+        }
     }
 
     /// A standby. Takes no memory.

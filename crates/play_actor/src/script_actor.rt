@@ -1,7 +1,8 @@
 //! An actor of a script.
-ghost use Rattle.std.specs.Prelude.{◌≡◌, false, None, OnOk, IfOk};
+ghost use Rattle.std.specs.Prelude.{◌≡◌, ◌≤◌, false, None, OnOk, IfOk, MatchOption};
 ghost use Rattle.play_model.specs.Lines.{line_of};
 ghost use Rattle.play_model.specs.Actor.{last_of};
+ghost use Rattle.play_actor.specs.Kinds.{begun_actor, IsStandbyAt, IsNoStandby};
 ghost use Rattle.play_model.specs.Actions.{ActorView, new_actor_view, has_names, kept_of, kept_by, action_of, IsIdleActor, MayCome, TakesIf};
 
 use crate::actions::{take_late, take_mark, take_task};
@@ -11,7 +12,7 @@ use journal_core::OutOfMemory;
 use play_calls::Seats;
 use play_model::{Actor, ActorLeft};
 use play_script::ScriptLine;
-use play_standby::SavedImages;
+use play_standby::{SavedImages, Standby};
 use std::alloc::{AllocError, Global};
 use std::marker::Model;
 use std::mem;
@@ -42,6 +43,36 @@ impl Model for ScriptActor {
     ghost Value = { ActorView };
 
     ghost view = { λ a. seen_kind a.kind };
+}
+
+impl ScriptActor {
+    /// An actor of a script with names that begins as a standby which stands here and has these
+    /// images, with a writer of that many nodes.
+    pub fn begun(
+        alloc: Global,
+        nodes: usize,
+        standby: Standby,
+        images: SavedImages,
+    ) -> Result<ScriptActor, OutOfMemory>
+        requires { 1 ≤ nodes }
+        ensures { IfOk result (λ actor. actor ≡ begun_actor nodes images standby) }
+    {
+        let node = NameNode::begun(alloc, nodes, standby, images)?;
+        Ok(ScriptActor {
+            kind: Kind::Named(node),
+        })
+    }
+
+    /// The standby, where the actor is one: it holds no segment then, and met no bad entry.
+    #[tactic(auto, using(crate::proofs::StandingLaws::no_standby))]
+    pub fn standby(&self) -> Option<&Standby>
+        ensures { MatchOption result (IsNoStandby self.now) (λ standby. IsStandbyAt self.now standby.now) }
+    {
+        match &self.kind {
+            Kind::Named(node) => node.standby(),
+            Kind::Raw(_) | Kind::Spent => None,
+        }
+    }
 }
 
 impl Actor for ScriptActor {

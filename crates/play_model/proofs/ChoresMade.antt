@@ -689,10 +689,21 @@ fresh_writer : (named : Bool) (n : ℕ) → (fresh_actor named n).writer ≡ new
 unfolding fresh_actor
 fresh_writer named n = refl
 
+quiet_made : (named : Bool) (n : ℕ) (ds : List Action) (rs : List Record) (a : Actor) → a.writer ≡ new_writer n → IsQuiet a.holds → AreActions named ds
+    → IsLed (settle ds a) rs → IsOfChores n rs
+quiet_made named n ds rs a w q d h =
+    let s : Settled rs named a (settle ds a) = settled_step named rs ds a d (quiet_calm a.holds a.writer q) in
+    let can : Can a rs = s.back (led_can named rs (settle ds a) s.actions s.calm h) in
+    at_quiet a.holds (new_writer n) rs q (can (new_writer n) (inl w))
+
 -- the calls of an actor are those of some chores
 pub chores_made : (named : Bool) (n : ℕ) (ds : List Action) (rs : List Record) → AreActions named ds → IsLed (settle ds (fresh_actor named n)) rs → IsOfChores n rs
-chores_made named n ds rs d h =
-    let new : Actor = fresh_actor named n in
-    let s : Settled rs named new (settle ds new) = settled_step named rs ds new d (quiet_calm new.holds new.writer (fresh_quiet named n)) in
-    let can : Can new rs = s.back (led_can named rs (settle ds new) s.actions s.calm h) in
-    at_quiet new.holds (new_writer n) rs (fresh_quiet named n) (can (new_writer n) (inl (fresh_writer named n)))
+chores_made named n ds rs d h = quiet_made named n ds rs (fresh_actor named n) (fresh_writer named n) (fresh_quiet named n) d h
+
+held_quiet : (o : Option Holding) (x : Holding) → o ≡ Some x → x.work ≡ Free → IsQuiet o
+held_quiet o x e f = λ more. ap (λ (p : Option Holding). reading_of p more) e ∙ ap (λ (y : Work). work_reading y x.position more) f
+
+-- also where it begins with a namespace, as that of an image
+pub held_made : (n : ℕ) (ds : List Action) (rs : List Record) (a : Actor) (x : Holding) → a.writer ≡ new_writer n → a.holds ≡ Some x → x.work ≡ Free → AreActions true ds
+    → IsLed (settle ds a) rs → IsOfChores n rs
+held_made n ds rs a x w e f d h = quiet_made true n ds rs a w (held_quiet a.holds x e f) d h

@@ -1,5 +1,5 @@
+pub mod TakerLaws
 pub mod PartLaws
 pub mod NodeLaws
-pub mod LimitLaws
 pub mod MirrorLaws
-pub mod ExpectedLaws
+pub mod ComeLaws

@@ -1,5 +1,5 @@
 -- Nodes and actors, one after another.
-use Rattle.std.proofs.Common.{ℕ, ◌≡◌, ◌<◌, ◌≤◌, ◌+◌, List, [], ◌∷◌, ◌++◌, length, drop, get_or, refl, sym, ◌∙◌, ap, arith, append_assoc, append-nil, length-append}
+use Rattle.std.proofs.Common.{ℕ, ◌≡◌, ◌<◌, ◌≤◌, ◌+◌, List, [], ◌∷◌, ◌++◌, length, drop, get_or, sym, ◌∙◌, ap, append_assoc, append-nil}
 use Rattle.std.proofs.lemmas.List.{drop_more, drop_all}
 use Rattle.journal_history.specs.declared.history_line.HistoryLine.{HistoryLine}
 use Rattle.journal_history.specs.declared.record.Record.{Record}
@@ -19,18 +19,6 @@ nodes_more ends out new all histories i d h l e =
 pub nodes_all : (ends : List End) (out all : List ℕ) (histories : List (List HistoryLine)) (i : ℕ) → out ++ nodes_text ends (i + 1) (drop i histories) ≡ all → length histories ≤ i → out ≡ all
 unfolding nodes_text
 nodes_all ends out all histories i h l = sym (append-nil out) ∙ ap (λ x. out ++ nodes_text ends (i + 1) x) (sym (drop_all i histories l)) ∙ h
-
--- a node that is too long after what is printed makes all of it too long
-pub nodes_long : (most : ℕ) (ends : List End) (out all : List ℕ) (histories : List (List HistoryLine)) (i : ℕ) (d : List HistoryLine)
-    → out ++ nodes_text ends (i + 1) (drop i histories) ≡ all → i < length histories
-    → most < length (out ++ node_text ends (i + 1) (get_or histories i d)) → most < length all
-nodes_long most ends out all histories i d h l m =
-    let text = out ++ node_text ends (i + 1) (get_or histories i d) in
-    let rest = nodes_text ends (i + 1 + 1) (drop (i + 1) histories) in
-    let e : length all ≡ length text + length rest = ap length (sym (nodes_more ends out text all histories i d h l refl)) ∙ length-append text rest in
-    omega (arith, e, m)
-
-pub ruleset node_steps = (nodes_more, nodes_all)
 
 -- one more actor
 pub actors_more : (out new all : List ℕ) (ends : List End) (records others : List (List Record)) (lines : List Record) (i : ℕ) (d : End)
@@ -52,21 +40,3 @@ pub actors_all : (out new all : List ℕ) (ends : List End) (records : List (Lis
     → length ends ≤ i → new ≡ out ++ operator_text records → new ≡ all
 unfolding actors_text
 actors_all out new all ends records i h l e = e ∙ ap (λ x. out ++ actors_text x records) (sym (drop_all i ends l)) ∙ h
-
--- an actor that is too long after what is printed makes all of it too long
-pub actors_long : (most : ℕ) (out all : List ℕ) (ends : List End) (records others : List (List Record)) (lines : List Record) (i : ℕ) (d : End)
-    → out ++ actors_text (drop i ends) records ≡ all → i < length ends
-    → records ≡ lines ∷ others → most < length (out ++ ended_text (get_or ends i d) lines) → most < length all
-actors_long most out all ends records others lines i d h l r m =
-    let text = out ++ ended_text (get_or ends i d) lines in
-    let rest = actors_text (drop (i + 1) ends) others in
-    let e : length all ≡ length text + length rest = ap length (sym (actors_more out text all ends records others lines i d h l r refl)) ∙ length-append text rest in
-    omega (arith, e, m)
-
-pub operator_long : (most : ℕ) (out all : List ℕ) (ends : List End) (records : List (List Record)) (i : ℕ) → out ++ actors_text (drop i ends) records ≡ all → length ends ≤ i
-    → most < length (out ++ operator_text records) → most < length all
-operator_long most out all ends records i h l m =
-    let e : length (out ++ operator_text records) ≡ length all = ap length (actors_all out (out ++ operator_text records) all ends records i h l refl) in
-    omega (arith, e, m)
-
-pub ruleset actor_steps = (actors_more, actors_none, actors_all)

@@ -1,7 +1,8 @@
--- Numbers in decimal, and what was printed last.
-use Rattle.std.proofs.Common.{ℕ, ◌≡◌, ◌<◌, ◌+◌, ◌-◌, List, [], ◌∷◌, ◌++◌, length, take, drop, replicate, sym, ◌∙◌, ap, append_assoc, append-nil, decimal}
+-- Numbers in decimal, and bytes in hexadecimal.
+use Rattle.std.proofs.Common.{ℕ, ◌≡◌, ◌<◌, ◌+◌, ◌-◌, ◌/◌, ◌%◌, List, [], ◌∷◌, ◌++◌, length, take, drop, get_or, replicate, refl, sym, ◌∙◌, ap, append_assoc, append-nil, decimal}
 use Rattle.std.proofs.lemmas.Fmt.{decimal_digit}
-use Rattle.std.proofs.lemmas.List.{take_rest, drop_at}
+use Rattle.std.proofs.lemmas.List.{take_rest, take_more}
+use Rattle.base_words.specs.Hex.{hex_digit, hex_text}
 use Rattle.journal_text.specs.Texts.{numbers_text}
 use Rattle.journal_text.proofs.PrintLaws.{decimal_short}
 
@@ -26,6 +27,13 @@ numbers_two out one new m n o e =
     e ∙ ap (λ x. x ++ numbers_text (n ∷ [])) o ∙ append_assoc out (numbers_text (m ∷ [])) (numbers_text (n ∷ []))
     ∙ ap (λ x. out ++ (x ++ numbers_text (n ∷ []))) (append-nil (32 ∷ decimal m))
 
--- what was added stands after what stood there
-pub tail_printed : (out new text : List ℕ) (start : ℕ) → start ≡ length out → new ≡ out ++ text → take (length new - start) (drop start new) ≡ text
-tail_printed out new text start size e = take_rest new start ∙ ap (drop start) e ∙ drop_at out text start (sym size)
+-- ## Hexadecimal digits
+hex-append : (ms ns : List ℕ) → hex_text (ms ++ ns) ≡ hex_text ms ++ hex_text ns
+unfolding hex_text
+hex-append [] ns = refl
+hex-append (m ∷ ms) ns = ap (λ xs. hex_digit (m / 16) ∷ hex_digit (m % 16) ∷ xs) (hex-append ms ns)
+
+-- one more byte
+pub hex_more : (ns piece : List ℕ) (i d : ℕ) → i < length ns → piece ≡ hex_digit (get_or ns i d / 16) ∷ hex_digit (get_or ns i d % 16) ∷ [] → hex_text (take i ns) ++ piece ≡ hex_text (take (i + 1) ns)
+unfolding hex_text
+hex_more ns piece i d l e = ap (λ xs. hex_text (take i ns) ++ xs) e ∙ sym (ap hex_text (take_more ns i d l) ∙ hex-append (take i ns) (get_or ns i d ∷ []))

@@ -4,3 +4,5 @@ pub mod Limit
 pub mod Summary
 pub mod Mirrored
 pub mod Booted
+pub mod Counts
+pub mod Comes

@@ -1,138 +1,129 @@
 //! What was asked of a node, and what came of it.
-ghost use Rattle.std.specs.Prelude.{◌≡◌, ◌++◌, ◌∷◌, [], OnOk};
+ghost use Rattle.std.specs.Prelude.{◌++◌, ◌∷◌, []};
 ghost use Rattle.journal_history.specs.Listed.{shown_ask};
 ghost use Rattle.play_report.specs.Text.{arrow, choice_text, stop_text, late_text, ask_text, answer_text, heard_text, done_text};
 
-use crate::parts::{put_pair, put_spaced};
-use crate::printed_requests::PrintedRequests;
-use journal_core::{Cut, OutOfMemory, Reply};
+use crate::pieces::put_numbers;
+use crate::replies::put_reply;
+use crate::requests::put_request;
+use crate::taker::Taker;
+use journal_core::{Cut, Reply};
 use journal_history::{LentAsk, NodeAnswer, Stop, Told};
-use journal_text::print_reply;
 
-fn put_choice(out: &mut Vec<u8>, cut: Cut) -> Result<(), OutOfMemory>
-    ensures { OnOk result (out.new.items ≡ out.old.items ++ choice_text cut) }
+fn put_choice<T: Taker>(out: &mut T, cut: Cut)
+    ensures { T.adds out.old out.new (choice_text cut) }
 {
     match cut {
-        Cut::Old => out.extend_from_slice(b" old"),
-        Cut::New => out.extend_from_slice(b" new"),
-        Cut::A5 => out.extend_from_slice(b" a5"),
+        Cut::Old => out.put(b" old"),
+        Cut::New => out.put(b" new"),
+        Cut::A5 => out.put(b" a5"),
     }
 }
 
-fn put_stop(out: &mut Vec<u8>, calls: u64, stop: Stop) -> Result<(), OutOfMemory>
-    ensures { OnOk result (out.new.items ≡ out.old.items ++ stop_text calls stop) }
+fn put_stop<T: Taker>(out: &mut T, calls: u64, stop: Stop)
+    ensures { T.adds out.old out.new (stop_text calls stop) }
 {
     match stop {
         Stop::Effects { keep } => {
-            out.extend_from_slice(b"stop")?;
-            put_pair(out, calls, keep)?;
-            Ok(())
+            out.put(b"stop");
+            put_numbers(out, &[calls, keep]);
         }
         Stop::DiskCalls { calls: made, cut } => {
-            out.extend_from_slice(b"cut")?;
-            put_pair(out, calls, made)?;
-            put_choice(out, cut)?;
-            Ok(())
+            out.put(b"cut");
+            put_numbers(out, &[calls, made]);
+            put_choice(out, cut);
         }
     }
 }
 
-fn put_late(out: &mut Vec<u8>, late: bool) -> Result<(), OutOfMemory>
-    ensures { OnOk result (out.new.items ≡ out.old.items ++ late_text late) }
+fn put_late<T: Taker>(out: &mut T, late: bool)
+    ensures { T.adds out.old out.new (late_text late) }
 {
     if late {
-        out.extend_from_slice(b"late ")?;
+        out.put(b"late ");
     }
-    Ok(())
 }
 
 /// What was asked.
 #[tactic(auto, unfolding(crate::specs::Text::ask_text))]
-pub(crate) fn put_ask(
-    out: &mut Vec<u8>,
-    printed: &mut PrintedRequests,
-    ask: LentAsk<'_>,
-) -> Result<(), OutOfMemory>
-    ensures { OnOk result (out.new.items ≡ out.old.items ++ ask_text (shown_ask ask.entry)) }
+pub(crate) fn put_ask<T: Taker>(out: &mut T, ask: LentAsk<'_>)
+    ensures { T.adds out.old out.new (ask_text (shown_ask ask.entry)) }
 {
     match ask {
         LentAsk::Act { late, request } => {
-            put_late(out, late)?;
-            printed.put(out, request)
+            put_late(out, late);
+            put_request(out, request.get());
         }
-        LentAsk::Kill => out.extend_from_slice(b"kill"),
-        LentAsk::Restart => out.extend_from_slice(b"restart"),
+        LentAsk::Kill => out.put(b"kill"),
+        LentAsk::Restart => out.put(b"restart"),
         LentAsk::Arm { calls, stop } => put_stop(out, calls, stop.get()),
     }
 }
 
 /// What the node answered.
 #[tactic(auto, unfolding(crate::specs::Text::answer_text))]
-fn put_answer(out: &mut Vec<u8>, answer: &NodeAnswer) -> Result<(), OutOfMemory>
-    ensures { OnOk result (out.new.items ≡ out.old.items ++ answer_text answer.now) }
+fn put_answer<T: Taker>(out: &mut T, answer: &NodeAnswer)
+    ensures { T.adds out.old out.new (answer_text answer.now) }
 {
     match answer {
-        NodeAnswer::Replied(reply) => print_reply(reply, out),
+        NodeAnswer::Replied(reply) => put_reply(out, reply),
         NodeAnswer::Stopped { keep } => {
-            out.extend_from_slice(b"stopped")?;
-            put_spaced(out, *keep)?;
-            Ok(())
+            out.put(b"stopped");
+            put_numbers(out, &[*keep]);
         }
-        NodeAnswer::Done => out.extend_from_slice(b"done"),
-        NodeAnswer::Idle => out.extend_from_slice(b"idle"),
-        NodeAnswer::NotOpened(_) => out.extend_from_slice(b"not opened"),
+        NodeAnswer::Done => out.put(b"done"),
+        NodeAnswer::Idle => out.put(b"idle"),
+        NodeAnswer::NotOpened(_) => out.put(b"not opened"),
     }
 }
 
 /// What a caller heard.
 #[tactic(auto, unfolding(crate::specs::Text::heard_text))]
-fn put_heard(out: &mut Vec<u8>, told: &Told) -> Result<(), OutOfMemory>
-    ensures { OnOk result (out.new.items ≡ out.old.items ++ heard_text told.now) }
+fn put_heard<T: Taker>(out: &mut T, told: &Told)
+    ensures { T.adds out.old out.new (heard_text told.now) }
 {
     match told {
-        Told::Reply(reply) => print_reply(reply, out),
-        Told::Dropped => out.extend_from_slice(b"dropped"),
-        Told::Muted => out.extend_from_slice(b"muted"),
-        Told::Silent => out.extend_from_slice(b"silent"),
+        Told::Reply(reply) => put_reply(out, reply),
+        Told::Dropped => out.put(b"dropped"),
+        Told::Muted => out.put(b"muted"),
+        Told::Silent => out.put(b"silent"),
     }
 }
 
 /// What the node answered, after an arrow, and the end of the line. Most answers are `ok`, which is
-/// added at once.
+/// one piece.
 #[tactic(auto, unfolding(crate::specs::Text::answer_text, journal_text::specs::Texts::reply_text))]
-pub fn put_answer_end(out: &mut Vec<u8>, answer: &NodeAnswer) -> Result<(), OutOfMemory>
-    ensures { OnOk result (out.new.items ≡ out.old.items ++ arrow ++ answer_text answer.now ++ 10 ∷ []) }
+pub(crate) fn put_answer_end<T: Taker>(out: &mut T, answer: &NodeAnswer)
+    ensures { T.adds out.old out.new (arrow ++ answer_text answer.now ++ 10 ∷ []) }
 {
     if let NodeAnswer::Replied(Reply::Ok) = answer {
-        return out.extend_from_slice(b" -> ok\n");
+        return out.put(b" -> ok\n");
     }
-    out.extend_from_slice(b" -> ")?;
-    put_answer(out, answer)?;
-    out.push(b'\n')?;
-    Ok(())
+    out.put(b" -> ");
+    put_answer(out, answer);
+    out.put(b"\n");
 }
 
 /// What a caller heard, after an arrow, and the end of the line.
 #[tactic(auto, unfolding(crate::specs::Text::heard_text, journal_text::specs::Texts::reply_text))]
-pub fn put_heard_end(out: &mut Vec<u8>, told: &Told) -> Result<(), OutOfMemory>
-    ensures { OnOk result (out.new.items ≡ out.old.items ++ arrow ++ heard_text told.now ++ 10 ∷ []) }
+pub(crate) fn put_heard_end<T: Taker>(out: &mut T, told: &Told)
+    ensures { T.adds out.old out.new (arrow ++ heard_text told.now ++ 10 ∷ []) }
 {
     if let Told::Reply(Reply::Ok) = told {
-        return out.extend_from_slice(b" -> ok\n");
+        return out.put(b" -> ok\n");
     }
-    out.extend_from_slice(b" -> ")?;
-    put_heard(out, told)?;
-    out.push(b'\n')?;
-    Ok(())
+    out.put(b" -> ");
+    put_heard(out, told);
+    out.put(b"\n");
 }
 
 /// Whether what the operator did took place.
-pub fn put_done(out: &mut Vec<u8>, done: bool) -> Result<(), OutOfMemory>
-    ensures { OnOk result (out.new.items ≡ out.old.items ++ done_text done) }
+pub(crate) fn put_done<T: Taker>(out: &mut T, done: bool)
+    ensures { T.adds out.old out.new (done_text done) }
 {
     if done {
-        out.extend_from_slice(b"done")
+        out.put(b"done");
     } else {
-        out.extend_from_slice(b"idle")
+        out.put(b"idle");
     }
 }

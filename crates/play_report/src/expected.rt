@@ -1,16 +1,15 @@
-//! A text that is compared with bytes.
-ghost use Rattle.std.specs.Prelude.{ℕ, List, ◌≡◌, ◌++◌, ◌+◌, ◌≤◌, true, length, take, drop, OnOk};
+//! A text is compared with bytes.
+ghost use Rattle.std.specs.Prelude.{◌≡◌, ◌≢◌, ◌++◌, List, [], ℕ, true, false, IfSome, IfNone};
+ghost use Rattle.play_report.specs.Comes.{comes, comes_none, comes_more};
 
-use crate::printing::{Printing, Taker};
-use crate::unprinted::Unprinted;
-use std::alloc::Global;
+use crate::taker::{Printable, Taker};
 
-/// Bytes that a text is to have, and how many of them came.
+/// What is still to come of the bytes that a text is to have, and whether all that came is as they
+/// are.
 #[derive(Drop)]
-pub(crate) struct Expected<'a> {
-    bytes: &'a [u8],
-    at: usize,
-    ghost within: { at ≤ length bytes.now },
+struct Expected<'a> {
+    rest: &'a [u8],
+    same: bool,
 }
 
 /// How many bytes two texts have in common before they part.
@@ -23,90 +22,67 @@ fn common(text: &[u8], other: &[u8]) -> usize {
     text.len().min(other.len())
 }
 
-impl<'a> Expected<'a> {
-    /// None of the bytes came yet.
-    fn new(bytes: &'a [u8]) -> Expected<'a>
-        ensures bytes { result.bytes.now ≡ bytes.now }
-        ensures start { result.at ≡ 0 }
-    {
-        Expected { bytes, at: 0 }
+/// What follows the piece, where the bytes begin with it.
+fn after<'a>(bytes: &'a [u8], piece: &[u8]) -> Option<&'a [u8]>
+    ensures follows { IfSome result (λ rest. bytes.now ≡ piece.now ++ rest.now) }
+    ensures none { IfNone result ((rest : List ℕ) → bytes.now ≢ piece.now ++ rest) }
+{
+    if bytes.len() < piece.len() {
+        return None;
     }
+    let (front, rest) = bytes.split_at(piece.len());
+    if front == piece { Some(rest) } else { None }
+}
 
-    /// What is still to come.
-    fn rest(&self) -> &'a [u8]
-        ensures { result.now ≡ drop self.now.at self.now.bytes.now }
+impl Expected<'_> {
+    /// Whether all of the bytes came, and nothing else.
+    fn all_came(&self) -> bool
+        ensures all { result ≡ true → (self.now.same ≡ true) × (self.now.rest.now ≡ []) }
+        ensures less { result ≡ false → self.now.same ≡ true → self.now.rest.now ≢ [] }
     {
-        &self.bytes[self.at..]
-    }
-
-    /// Where what comes parts from these bytes.
-    fn parting(&self, text: &[u8]) -> usize {
-        self.at.saturating_add(common(self.rest(), text))
-    }
-
-    /// Whether the text comes next.
-    fn comes(&self, text: &[u8]) -> bool
-        ensures next { result ≡ true → take (length text.now) (drop self.now.at self.now.bytes.now) ≡ text.now }
-        ensures room { result ≡ true → self.now.at + length text.now ≤ length self.now.bytes.now }
-    {
-        let rest = self.rest();
-        text.len() <= rest.len() && &rest[..text.len()] == text
-    }
-
-    /// How many bytes there are.
-    fn len(&self) -> usize
-        ensures { result ≡ length self.now.bytes.now }
-    {
-        self.bytes.len()
-    }
-
-    /// That the text is all that is still to come.
-    fn end(&self, text: &[u8]) -> Result<(), Unprinted>
-        ensures { OnOk result (self.now.bytes.now ≡ take self.now.at self.now.bytes.now ++ text.now) }
-    {
-        if self.rest() == text {
-            Ok(())
-        } else {
-            Err(Unprinted::Parts {
-                at: self.parting(text),
-            })
-        }
+        self.same && self.rest.is_empty()
     }
 }
 
 impl Taker for Expected<'_> {
-    // The bytes, and then those that came: they stay the same ones, since what was taken stays.
-    ghost taken = { λ e. e.bytes.now ++ take e.at e.bytes.now };
+    ghost adds = { λ x y a. comes x.same x.rest.now y.same y.rest.now a };
 
-    /// Takes all of the text, which comes next. `Parts` where it doesn't.
-    #[tactic(auto, using(crate::proofs::ExpectedLaws::more_came))]
-    fn take_front(&mut self, text: &mut Vec<u8>) -> Result<(), Unprinted> {
-        if !self.comes(text) {
-            let at = self.parting(text);
-            return Err(Unprinted::Parts { at });
+    fn is_done(&self) -> bool {
+        !self.same
+    }
+
+    fn put(&mut self, piece: &[u8]) {
+        if !self.same {
+            return;
         }
-        self.at += text.len();
-        text.clear();
-        Ok(())
+        match after(self.rest, piece) {
+            Some(rest) => self.rest = rest,
+            None => {
+                let count = common(self.rest, piece).min(self.rest.len());
+                self.rest = &self.rest[count..];
+                self.same = false;
+            }
+        }
     }
+
+    ghost adds_none = { λ x. comes_none x.same x.rest.now };
+
+    ghost adds_more = { λ x y z a b. comes_more x.same x.rest.now y.same y.rest.now z.same z.rest.now a b };
 }
 
-/// A text that is to have these bytes, of which nothing came yet.
-#[tactic(auto, using(crate::proofs::ExpectedLaws::none_came))]
-pub(crate) fn expecting(alloc: Global, bytes: &[u8]) -> Printing<Expected<'_>>
-    ensures { result ≡ bytes.now }
+/// Where these bytes part from a text, if they do: how many of them are as the text's. The text is
+/// printed for that, and nothing of it is kept.
+pub(crate) fn parting_of<P: Printable>(text: &P, bytes: &[u8]) -> Option<usize>
+    ensures same { IfNone result (bytes.now ≡ P.text text.now) }
+    ensures parts { IfSome result (λ at. bytes.now ≢ P.text text.now) }
 {
-    Printing::to(alloc, Expected::new(bytes))
-}
-
-/// That all of these bytes came, which were expected.
-pub(crate) fn all_came(out: &Printing<Expected<'_>>, bytes: &[u8]) -> Result<(), Unprinted>
-    ensures { OnOk result ((came : List ℕ) → out.now ≡ bytes.now ++ came → bytes.now ≡ came) }
-{
-    let count = out.taker.len();
-    if count != bytes.len() {
-        return Err(Unprinted::Parts { at: 0 });
+    let mut expected = Expected {
+        rest: bytes,
+        same: true,
+    };
+    text.print(&mut expected);
+    if expected.all_came() {
+        return None;
     }
-    out.taker.end(&out.text)?;
-    Ok(())
+    Some(bytes.len().saturating_sub(expected.rest.len()))
 }

@@ -2,30 +2,30 @@
 //! that begins over them.
 #![tactic(auto)]
 
-mod answer;
 mod asks;
 mod booted;
+mod counted;
 mod entries;
 mod examples;
 mod expected;
 mod lasts;
 mod mirrored;
 mod parts;
-mod printed;
-mod printed_requests;
-mod printing;
+mod pieces;
+mod replies;
 mod report;
+mod requests;
 mod results;
+mod rows;
 mod summary;
+mod taker;
 mod tally;
-mod unprinted;
-mod whole;
 
-pub use answer::Report;
-pub use booted::{print_booted, print_booted_behind, print_unreachable};
+pub use booted::{BootText, print_booted_behind, print_unreachable};
+pub use counted::{LONGEST_REPORT, is_within_limit};
 pub use examples::reports_are_as_written;
 pub use mirrored::print_mirror;
 pub use parts::caller_name;
-pub use report::{parting, report_of};
+pub use report::{ReportText, parting};
 pub use summary::summary_of;
-pub use unprinted::LONGEST_REPORT;
+pub use taker::{Printable, Taker};

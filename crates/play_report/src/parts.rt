@@ -20,7 +20,7 @@ fn put_digits(out: &mut Vec<u8>, number: u64) -> Result<(), OutOfMemory>
 
 /// A number in decimal; a single digit, as most numbers of nodes are, at once.
 #[tactic(auto, using(crate::proofs::PartLaws::one_digit))]
-pub fn put_number(out: &mut Vec<u8>, number: u64) -> Result<(), OutOfMemory>
+fn put_number(out: &mut Vec<u8>, number: u64) -> Result<(), OutOfMemory>
     ensures { OnOk result (out.new.items ≡ out.old.items ++ decimal number) }
 {
     if number < 10 {
@@ -32,7 +32,7 @@ pub fn put_number(out: &mut Vec<u8>, number: u64) -> Result<(), OutOfMemory>
 
 /// A number after a space.
 #[tactic(auto, using(crate::proofs::PartLaws::numbers_one))]
-pub fn put_spaced(out: &mut Vec<u8>, number: u64) -> Result<(), OutOfMemory>
+pub(crate) fn put_spaced(out: &mut Vec<u8>, number: u64) -> Result<(), OutOfMemory>
     ensures { OnOk result (out.new.items ≡ out.old.items ++ numbers_text (number ∷ [])) }
 {
     out.push(b' ')?;
@@ -42,7 +42,7 @@ pub fn put_spaced(out: &mut Vec<u8>, number: u64) -> Result<(), OutOfMemory>
 
 /// Two numbers, each after a space.
 #[tactic(auto, using(crate::proofs::PartLaws::numbers_two))]
-pub fn put_pair(out: &mut Vec<u8>, first: u64, second: u64) -> Result<(), OutOfMemory>
+pub(crate) fn put_pair(out: &mut Vec<u8>, first: u64, second: u64) -> Result<(), OutOfMemory>
     ensures { OnOk result (out.new.items ≡ out.old.items ++ numbers_text (first ∷ second ∷ [])) }
 {
     put_spaced(out, first)?;

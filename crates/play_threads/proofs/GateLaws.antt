@@ -209,7 +209,7 @@ element [] k h = absurd (omega (arith, h))
 element (x ∷ xs) zero h = (x, refl)
 element (x ∷ xs) (suc k) h = element xs k (omega (arith, h))
 
-is_element : {A : Type 0} (l : List A) (k : ℕ) (s d : A) → get_elem? l k ≡ some s → get_or l k d ≡ s
+pub is_element : {A : Type 0} (l : List A) (k : ℕ) (s d : A) → get_elem? l k ≡ some s → get_or l k d ≡ s
 is_element [] k s d e = absurd (cc e)
 is_element (x ∷ xs) zero s d e = cc e
 is_element (x ∷ xs) (suc k) s d e = is_element xs k s d e

@@ -1,5 +1,6 @@
 -- A node behind a gate: its history is one node's, and its answers are such as nodes give.
-use Rattle.std.proofs.Common.{◌≡◌, ℕ, [], Bool, true, false, cond, refl, sym, ap, ◌∙◌, subst}
+use Rattle.std.proofs.Common.{◌≡◌, ℕ, List, [], ◌∷◌, ◌++◌, Bool, true, false, cond, refl, sym, ap, ◌∙◌, subst}
+use Rattle.std.proofs.lemmas.List.{map-append}
 use Rattle.std.specs.Prelude.{Option, Some, None, ◌-◌, nat_lt}
 use Rattle.journal_core.specs.declared.request.Request.{Request}
 use Rattle.journal_history.specs.declared.node_ask.NodeAsk.{NodeAsk}
@@ -10,7 +11,7 @@ use Rattle.journal_history.specs.declared.arming.Arming.{Arming}
 use Rattle.journal_history.specs.Cell.{Cell, Taken, fresh_cell, cell_takes, take_request, count_request, replies, stops, kept_by, take_kill, started_again, take_arming, IsLocalRun, cell_after}
 use Rattle.journal_history.specs.NodeCells.{CellView, IsTaken, AnswerFits}
 use Rattle.mesh.proofs.Tied.{local_snoc, cell_snoc}
-use Rattle.play_threads.specs.Entries.{IsReplyOrStop, IsDoneOrIdle, FitsAsk}
+use Rattle.play_threads.specs.Entries.{Entry, entry_of, entries_of, IsReplyOrStop, IsDoneOrIdle, FitsAsk}
 
 -- ## Its history
 pub local_listed : (old new : CellView) (caller : ℕ) (ask : NodeAsk) (answer : NodeAnswer) → IsLocalRun fresh_cell old.history
@@ -22,6 +23,12 @@ local_listed old new caller ask answer local here t =
       subst (IsLocalRun fresh_cell) (sym t.listed) (local_snoc fresh_cell old.history h local (sym (ap (λ (x : Taken). x.answer) now))),
       ap (cell_after fresh_cell) t.listed ∙ cell_snoc fresh_cell old.history h ∙ ap (λ (x : Taken). x.cell) now,
     )
+
+-- its lines, with one more
+pub entries_behind : (old new : CellView) (caller : ℕ) (ask asked : NodeAsk) (answer : NodeAnswer) (log : List Entry) → IsTaken old caller asked answer new → asked ≡ ask
+    → entries_of old.history ≡ log → entries_of new.history ≡ log ++ (caller, (ask, answer)) ∷ []
+entries_behind old new caller ask asked answer log t same is =
+    ap entries_of t.listed ∙ map-append entry_of old.history (record { caller = caller; ask = asked; answer = answer } ∷ []) ∙ (λ i. is i ++ (caller, (same i, answer)) ∷ [])
 
 pub nothing_local : IsLocalRun fresh_cell []
 unfolding IsLocalRun

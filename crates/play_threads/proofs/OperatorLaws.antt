@@ -9,7 +9,7 @@ use Rattle.play_model.specs.Lines.{Line, Declares, Acts, Operates, operations_in
 use Rattle.play_model.specs.Follows.{AreOperations}
 use Rattle.play_model.proofs.Taking.{operations_append, operations_snoc, operators_snoc}
 use Rattle.play_threads.specs.Threads.{OperatesOn, HasOperated}
-use Rattle.play_threads.proofs.ActorLaws.{lines_next, take_all}
+use Rattle.play_threads.proofs.ActorLaws.{lines_next}
 
 nothing_operated : (past : List Record) → past ≡ [] → HasOperated [] past
 unfolding AreOperations IsOperators operations_in

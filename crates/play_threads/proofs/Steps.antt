@@ -112,8 +112,8 @@ module _ {E : Type 0} where
   join_other owners served log out ended p n other j u Inside is zeroth apart k = (join_sits log ended p other j u is apart k.0, k.1, k.2, k.3, k.4)
   join_other owners served log out ended p n other j u Spent is zeroth apart k = k
 
-module _ {S E : Type 0} (history : S → Log E) where
-  stays : (s : State S (View E)) (k : Kept history s) (ws : List ℕ) (vs : List (View E)) → ws ≡ s.words → vs ≡ s.views → Kept history (record { words = ws; homes = s.homes; views = vs })
+module _ {S E : Type 0} (led : Log E → S → Type 0) where
+  stays : (s : State S (View E)) (k : Kept led s) (ws : List ℕ) (vs : List (View E)) → ws ≡ s.words → vs ≡ s.views → Kept led (record { words = ws; homes = s.homes; views = vs })
   stays s k ws vs we ve = record {
     owners = k.owners;
     served = k.served;
@@ -131,7 +131,7 @@ module _ {S E : Type 0} (history : S → Log E) where
     later = subst (λ (l : List (View E)). (i : ℕ) → length l ≤ suc i → places_of i k.log ≡ []) (sym ve) k.later;
   }
 
-  pub draws : (slots by : ℕ) (v : View E) (c : List (ℕ × S)) → v.stage ≡ Rests → Allows (Kept history) slots by (v, c) 0 (λ n. (n + 1) % 2 ^ 64) (drew untold (v, c))
+  pub draws : (slots by : ℕ) (v : View E) (c : List (ℕ × S)) → v.stage ≡ Rests → Allows (Kept led) slots by (v, c) 0 (λ n. (n + 1) % 2 ^ 64) (drew untold (v, c))
   draws slots by v c is s k one at small =
       let t : ℕ = length k.owners in
       let w = seated Waits v.caller t v.seen v.places in
@@ -150,7 +150,7 @@ module _ {S E : Type 0} (history : S → Log E) where
           log = k.log;
           out = k.out;
           ended = k.ended;
-          words_are = ap (λ (ws : List ℕ). slice_set ws 0 ((slice_index ws 0 + 1) % 2 ^ 64)) k.words_are ∙ ap (λ (n : ℕ). n ∷ k.served % 2 ^ 64 ∷ length k.log ∷ []) spun;
+          words_are = ap (λ (ws : List ℕ). slice_set ws 0 ((slice_index ws 0 + 1) % 2 ^ 64)) k.words_are ∙ ap (λ (n : ℕ). n ∷ k.served % 2 ^ 64 ∷ length k.log % 2 ^ 64 ∷ []) spun;
           lies = k.lies;
           drawn = omega (arith, longer);
           busy = λ b. let l = k.busy b in omega (arith, longer);
@@ -164,15 +164,15 @@ module _ {S E : Type 0} (history : S → Log E) where
         (t, ap (λ (ws : List ℕ). slice_index ws 0) k.words_are, refl),
       )
 
-  pub looks : (slots by : ℕ) (v : View E) (c : List (ℕ × S)) → v.stage ≡ Waits → Allows (Kept history) slots by (v, c) 1 (λ n. n) (looked history untold (v, c))
+  pub looks : (slots by : ℕ) (v : View E) (c : List (ℕ × S)) → v.stage ≡ Waits → Allows (Kept led) slots by (v, c) 1 (λ n. n) (looked led untold (v, c))
   looks slots by v c is s k one at small =
       let r : ℕ = slice_index s.words 1 in
       let found : r ≡ k.served % 2 ^ 64 = ap (λ (ws : List ℕ). slice_index ws 1) k.words_are in
       let kept_words : slice_set s.words 1 (slice_index s.words 1) ≡ s.words = ap (λ (ws : List ℕ). slice_set ws 1 (slice_index ws 1)) k.words_are ∙ sym k.words_are in
       let mine : Knows k.owners k.served k.log k.out k.ended (length s.views) by v Waits = subst (Knows k.owners k.served k.log k.out k.ended (length s.views) by v) is (k.each by v at) in
       let Goal : Type 0 = (w : View E) × (a : Act S) × Rattle.atomic_table.specs.Table.Valid s.homes c a
-      × Kept history (Rattle.atomic_table.specs.Table.stepped s 1 r by c w a)
-      × looked history untold (v, c) r (w, Rattle.atomic_table.specs.Table.carried_after c a) in
+      × Kept led (Rattle.atomic_table.specs.Table.stepped s 1 r by c w a)
+      × looked led untold (v, c) r (w, Rattle.atomic_table.specs.Table.carried_after c a) in
       dite (ℕ_discrete r (v.ticket % 2 ^ 64))
       (λ (hit : r ≡ v.ticket % 2 ^ 64).
       let below = at_less k.owners v.ticket by mine.1 in
@@ -182,9 +182,9 @@ module _ {S E : Type 0} (history : S → Log E) where
       let bound = turns_few s.views in
       let now : k.served ≡ v.ticket = one_turn k.served v.ticket (2 ^ 64) le (omega arith) (sym found ∙ hit) in
       let in_place : k.out ≡ false = mine.3 (sym now) in
-      let home : Lies history k.log s.homes false = subst (Lies history k.log s.homes) in_place k.lies in
+      let home : Lies led k.log s.homes false = subst (Lies led k.log s.homes) in_place k.lies in
       let cell : S = home.0 in
-      let w = seated Inside v.caller v.ticket (history cell) v.places in
+      let w = seated Inside v.caller v.ticket k.log v.places in
       let ours : turn v.stage ≡ 1 = ap turn is in
       let counted = turns_set s.views by v w at in (
         w,
@@ -204,34 +204,32 @@ module _ {S E : Type 0} (history : S → Log E) where
           each = each_after (λ n j u. Knows k.owners k.served k.log true k.ended n j u u.stage) s.views by w
               (λ j u apart e. take_other k.owners k.served k.log k.ended (length s.views) v.ticket by j u u.stage mine.1 now apart
               (subst (λ (b : Bool). Knows k.owners k.served k.log b k.ended (length s.views) j u u.stage) in_place (k.each j u e)))
-              ((mine.0.0, ([], append-nil (history cell) ∙ home.2), mine.0.2, mine.0.3), mine.1, sym now, refl, home.2);
+              ((mine.0.0, ([], append-nil k.log), mine.0.2, mine.0.3), mine.1, sym now, refl, refl);
           past = k.past;
           later = λ i le'. k.later i (omega (arith, length-set s.views by w));
         },
-        (λ miss. absurd (miss hit), λ _. (cell, refl, subst (Begins v.seen) (sym home.2) mine.0.1, ap (places_of v.caller) home.2 ∙ mine.0.2)),
+        (λ miss. absurd (miss hit), λ _. (cell, k.log, refl, home.2, mine.0.1, mine.0.2)),
       ))
       (λ (miss : r ≢ v.ticket % 2 ^ 64). (v, keeps, tt, stays s k _ _ kept_words (set_again s.views by v at), (λ _. refl, λ hit. absurd (miss hit))))
 
-  lies_out : (log log' : Log E) (homes : List (Option S)) (b : Bool) → b ≡ true → Lies history log homes b → Lies history log' homes b
+  lies_out : (log log' : Log E) (homes : List (Option S)) (b : Bool) → b ≡ true → Lies led log homes b → Lies led log' homes b
   lies_out log log' homes true e h = h
   lies_out log log' homes false e h = absurd (true≢false (sym e))
 
-  -- the cell in the held slot has the call at the end of its history
-  pub notes : (slots by : ℕ) (v : View E) (cell : S) (x : E) → v.stage ≡ Inside → history cell ≡ v.seen ++ (v.caller, x) ∷ [] → length (history cell) < 2 ^ 63
-      → Allows (Kept history) slots by (v, (0, cell) ∷ []) 2 (λ n. (n + 1) % 2 ^ 64) (noted history untold (v, (0, cell) ∷ []))
-  notes slots by v cell x is called room s k one at small =
-      let r : ℕ = slice_index s.words 2 in
-      let found : r ≡ length k.log = ap (λ (ws : List ℕ). slice_index ws 2) k.words_are in
-      let mine : Knows k.owners k.served k.log k.out k.ended (length s.views) by v Inside = subst (Knows k.owners k.served k.log k.out k.ended (length s.views) by v) is (k.each by v at) in
+  -- the call goes to the end of the history
+  pub notes : (slots by : ℕ) (v : View E) (c : List (ℕ × S)) (is : E → Type 0) (x : E) → v.stage ≡ Inside → is x
+      → Allows (Kept led) slots by (v, c) 2 (λ n. (n + 1) % 2 ^ 64) (noted is untold (v, c))
+  notes slots by v c is x inside mean s k one at small =
+      let mine : Knows k.owners k.served k.log k.out k.ended (length s.views) by v Inside = subst (Knows k.owners k.served k.log k.out k.ended (length s.views) by v) inside (k.each by v at) in
       let log' : Log E = k.log ++ (v.caller, x) ∷ [] in
-      let is_log : history cell ≡ log' = called ∙ ap (λ (l : Log E). l ++ (v.caller, x) ∷ []) mine.4 in
-      let w = seated Inside v.caller v.ticket (history cell) (v.places ++ r ∷ []) in
-      let ours : turn v.stage ≡ 1 = ap turn is in
+      let is_log : v.seen ++ (v.caller, x) ∷ [] ≡ log' = ap (λ (l : Log E). l ++ (v.caller, x) ∷ []) mine.4 in
+      let w = seated Inside v.caller v.ticket (v.seen ++ (v.caller, x) ∷ []) (v.places ++ length v.seen ∷ []) in
+      let ours : turn v.stage ≡ 1 = ap turn inside in
       let counted = turns_set s.views by v w at in
       let drawn = k.drawn in
       let grown = length-append k.log ((v.caller, x) ∷ []) in
-      let short : length log' < 2 ^ 63 = subst (λ (l : Log E). length l < 2 ^ 63) is_log room in
-      let spun : (length k.log + 1) % 2 ^ 64 ≡ length log' = omega (arith, grown) in
+      let spun : (length k.log % 2 ^ 64 + 1) % 2 ^ 64 ≡ length log' % 2 ^ 64 = omega (arith, grown) in
+      let here_is : length k.log ≡ length v.seen = ap (λ (l : Log E). length l) (sym mine.4) in
       let who = mine.0.0 in
       let low = mine.0.3 in
       let here = at_less s.views by v at in (
@@ -251,7 +249,7 @@ module _ {S E : Type 0} (history : S → Log E) where
           few = let f = k.few in omega (arith, length-set s.views by w);
           each = each_after (λ n j u. Knows k.owners k.served log' k.out k.ended n j u u.stage) s.views by w
               (λ j u apart e. note_other k.owners k.served k.log k.out k.ended (length s.views) v.ticket v.caller by j x u u.stage mine.1 mine.2 who apart (k.each j u e)) (
-                (who, ([], append-nil (history cell) ∙ is_log), own_place v.caller k.log x ∙ (λ i. mine.0.2 i ++ sym found i ∷ []), low),
+                (who, ([], append-nil (v.seen ++ (v.caller, x) ∷ []) ∙ is_log), own_place v.caller k.log x ∙ (λ i. mine.0.2 i ++ here_is i ∷ []), low),
                 mine.1,
                 mine.2,
                 mine.3,
@@ -261,11 +259,11 @@ module _ {S E : Type 0} (history : S → Log E) where
               in (begins_more p.0 k.log ((v.caller, x) ∷ []) old.0, else_place i v.caller k.log x (λ q. absurd (omega arith)) ∙ old.1);
           later = λ i le. let le' : length s.views ≤ suc i = omega (arith, length-set s.views by w) in else_place i v.caller k.log x (λ q. absurd (omega arith)) ∙ k.later i le';
         },
-        (found ∙ ap (λ (l : Log E). length l) (sym mine.4), refl),
+        (x, mean, refl),
       )
 
-  pub passes : (slots by : ℕ) (v : View E) (cell : S) (new : ℕ) → v.stage ≡ Inside → history cell ≡ v.seen → new ≡ (v.ticket + 1) % 2 ^ 64
-      → Allows (Kept history) slots by (v, (0, cell) ∷ []) 1 (λ _. new) (λ _. passed untold (v, (0, cell) ∷ []) new)
+  pub passes : (slots by : ℕ) (v : View E) (cell : S) (new : ℕ) → v.stage ≡ Inside → led v.seen cell → new ≡ (v.ticket + 1) % 2 ^ 64
+      → Allows (Kept led) slots by (v, (0, cell) ∷ []) 1 (λ _. new) (λ _. passed untold (v, (0, cell) ∷ []) new)
   passes slots by v cell new is same next s k one at small =
       let mine : Knows k.owners k.served k.log k.out k.ended (length s.views) by v Inside = subst (Knows k.owners k.served k.log k.out k.ended (length s.views) by v) is (k.each by v at) in
       let w = seated Rests v.caller 0 v.seen v.places in
@@ -274,7 +272,7 @@ module _ {S E : Type 0} (history : S → Log E) where
       let drawn = k.drawn in
       let now = mine.2 in
       let new_is : new ≡ suc k.served % 2 ^ 64 = next ∙ ap (λ (n : ℕ). n % 2 ^ 64) (let q : v.ticket + 1 ≡ suc k.served = omega arith in q) in
-      let away : s.homes ≡ none ∷ [] = subst (Lies history k.log s.homes) mine.3 k.lies in (
+      let away : s.homes ≡ none ∷ [] = subst (Lies led k.log s.homes) mine.3 k.lies in (
         w,
         gives,
         tt,
@@ -284,8 +282,8 @@ module _ {S E : Type 0} (history : S → Log E) where
           log = k.log;
           out = false;
           ended = k.ended;
-          words_are = ap (λ (ws : List ℕ). slice_set ws 1 new) k.words_are ∙ ap (λ (n : ℕ). length k.owners % 2 ^ 64 ∷ n ∷ length k.log ∷ []) new_is;
-          lies = (cell, ap (λ (h : List (Option S)). slice_set h 0 (some cell)) away, same ∙ mine.4);
+          words_are = ap (λ (ws : List ℕ). slice_set ws 1 new) k.words_are ∙ ap (λ (n : ℕ). length k.owners % 2 ^ 64 ∷ n ∷ length k.log % 2 ^ 64 ∷ []) new_is;
+          lies = (cell, ap (λ (h : List (Option S)). slice_set h 0 (some cell)) away, subst (λ (l : Log E). led l cell) mine.4 same);
           drawn = omega arith;
           busy = λ b. absurd (true≢false (sym b));
           few = let f = k.few in omega (arith, length-set s.views by w);
@@ -298,17 +296,12 @@ module _ {S E : Type 0} (history : S → Log E) where
         refl,
       )
 
-  pub notes_at : (slots by : ℕ) (m : Me S (View E)) (cell : S) (x : E) → m.0.stage ≡ Inside → m.1 ≡ (0, cell) ∷ [] → history cell ≡ m.0.seen ++ (m.0.caller, x) ∷ [] → length (history cell) < 2 ^ 63
-      → Allows (Kept history) slots by m 2 (λ n. (n + 1) % 2 ^ 64) (noted history untold m)
-  notes_at slots by m cell x is holds called room =
-      subst (λ (c : List (ℕ × S)). Allows (Kept history) slots by (m.0, c) 2 (λ n. (n + 1) % 2 ^ 64) (noted history untold (m.0, c))) (sym holds) (notes slots by m.0 cell x is called room)
-
-  pub passes_at : (slots by : ℕ) (m : Me S (View E)) (cell : S) (new : ℕ) → m.0.stage ≡ Inside → m.1 ≡ (0, cell) ∷ [] → history cell ≡ m.0.seen → new ≡ (m.0.ticket + 1) % 2 ^ 64
-      → Allows (Kept history) slots by m 1 (λ _. new) (λ _. passed untold m new)
+  pub passes_at : (slots by : ℕ) (m : Me S (View E)) (cell : S) (new : ℕ) → m.0.stage ≡ Inside → m.1 ≡ (0, cell) ∷ [] → led m.0.seen cell → new ≡ (m.0.ticket + 1) % 2 ^ 64
+      → Allows (Kept led) slots by m 1 (λ _. new) (λ _. passed untold m new)
   passes_at slots by m cell new is holds same next =
-      subst (λ (c : List (ℕ × S)). Allows (Kept history) slots by (m.0, c) 1 (λ _. new) (λ _. passed untold (m.0, c) new)) (sym holds) (passes slots by m.0 cell new is same next)
+      subst (λ (c : List (ℕ × S)). Allows (Kept led) slots by (m.0, c) 1 (λ _. new) (λ _. passed untold (m.0, c) new)) (sym holds) (passes slots by m.0 cell new is same next)
 
-  pub splits : (id made : ℕ) (ended : List (Log E × List ℕ)) (v : View E) → v ≡ keeper made ended → made + 2 ≤ 2 ^ 32 → Splits (Kept history) id v (made_one v) (new_seat v)
+  pub splits : (id made : ℕ) (ended : List (Log E × List ℕ)) (v : View E) → v ≡ keeper made ended → made + 2 ≤ 2 ^ 32 → Splits (Kept led) id v (made_one v) (new_seat v)
   splits id made ended v is small s k at =
       let st : v.stage ≡ Keeps = ap (λ (u : View E). u.stage) is in
       let mine : Knows k.owners k.served k.log k.out k.ended (length s.views) id v Keeps = subst (Knows k.owners k.served k.log k.out k.ended (length s.views) id v) st (k.each id v at) in
@@ -349,7 +342,7 @@ module _ {S E : Type 0} (history : S → Log E) where
       }
 
   pub joins : (id other made : ℕ) (ended : List (Log E × List ℕ)) (v w : View E) → v ≡ keeper made ended → w.stage ≡ Rests → w.caller ≡ length ended
-      → Joins (Kept history) id v other w (took_in v w) nobody
+      → Joins (Kept led) id v other w (took_in v w) nobody
   joins id other made ended v w is rests next s k at apart there =
       let st : v.stage ≡ Keeps = ap (λ (u : View E). u.stage) is in
       let mine : Knows k.owners k.served k.log k.out k.ended (length s.views) id v Keeps = subst (Knows k.owners k.served k.log k.out k.ended (length s.views) id v) st (k.each id v at) in
@@ -400,7 +393,7 @@ module _ {S E : Type 0} (history : S → Log E) where
         later = λ i le. k.later i (omega arith);
       }
 
-  pub opens : (cell : S) → history cell ≡ [] → Kept history (opening (0 ∷ 0 ∷ 0 ∷ []) (cell ∷ []) (keeper 0 []))
+  pub opens : (cell : S) → led [] cell → Kept led (opening (0 ∷ 0 ∷ 0 ∷ []) (cell ∷ []) (keeper 0 []))
   opens cell empty = record {
     owners = [];
     served = 0;
@@ -435,15 +428,16 @@ module _ {E : Type 0} where
   still owners served log out ended n j u Inside lt is k = let a = k.0.0 in let b = k.0.3 in absurd (omega arith)
   still owners served log out ended n j u Spent lt is k = refl
 
-  -- the cell is back, and its history has what each seat had seen, and each seat's calls at its
-  -- places
-  pub finishes : {S : Type 0} (history : S → Log E) (id : ℕ) (v : View E) (ended : List (Log E × List ℕ)) (ws : List ℕ) (xs : List S)
-      → v ≡ keeper (length ended) ended → Final (Seen (Kept history) id v) ws xs
-      → (cell : S) × (get_elem? xs 0 ≡ some cell) × ((i : ℕ) (p : Log E × List ℕ) → get_elem? ended i ≡ some p → Begins p.0 (history cell) × (places_of i (history cell) ≡ p.1))
-      × ((i : ℕ) → length ended ≤ i → places_of i (history cell) ≡ [])
-  finishes {S} history id v ended ws xs is f =
+  -- the cell is back, one history led to it, and that has what each seat had seen, and each seat's
+  -- calls at its places
+  pub finishes : {S : Type 0} (led : Log E → S → Type 0) (id : ℕ) (v : View E) (ended : List (Log E × List ℕ)) (ws : List ℕ) (xs : List S)
+      → v ≡ keeper (length ended) ended → Final (Seen (Kept led) id v) ws xs
+      → (cell : S) × (log : Log E) × (get_elem? xs 0 ≡ some cell) × led log cell
+      × ((i : ℕ) (p : Log E × List ℕ) → get_elem? ended i ≡ some p → Begins p.0 log × (places_of i log ≡ p.1))
+      × ((i : ℕ) → length ended ≤ i → places_of i log ≡ [])
+  finishes {S} led id v ended ws xs is f =
       let s = f.0 in
-      let k : Kept history s = f.1.0 in
+      let k : Kept led s = f.1.0 in
       let at = f.1.1 in
       let st : v.stage ≡ Keeps = ap (λ (u : View E). u.stage) is in
       let mine : Knows k.owners k.served k.log k.out k.ended (length s.views) id v Keeps = subst (Knows k.owners k.served k.log k.out k.ended (length s.views) id v) st (k.each id v at) in
@@ -452,9 +446,11 @@ module _ {E : Type 0} where
       let quiet : turns s.views ≡ 0 = all_still s.views (λ j u e. still k.owners k.served k.log k.out k.ended (length s.views) j u u.stage (at_less s.views j u e) size (k.each j u e)) in
       let drawn = k.drawn in
       let back : k.out ≡ false = not_true k.out (λ b. let l = k.busy b in absurd (omega arith)) in
-      let home : Lies history k.log s.homes false = subst (Lies history k.log s.homes) back k.lies in (
+      let home : Lies led k.log s.homes false = subst (Lies led k.log s.homes) back k.lies in (
         home.0,
+        k.log,
         f.4 0 home.0 (ap (λ (h : List (Option S)). get_elem? h 0) home.1),
-        (λ i p e. subst (λ (l : Log E). Begins p.0 l × (places_of i l ≡ p.1)) (sym home.2) (k.past i p (subst (λ (l : List (Log E × List ℕ)). get_elem? l i ≡ some p) known e))),
-        λ i le. subst (λ (l : Log E). places_of i l ≡ []) (sym home.2) (k.later i (let n = ap (λ (l : List (Log E × List ℕ)). length l) known in omega arith)),
+        home.2,
+        (λ i p e. k.past i p (subst (λ (l : List (Log E × List ℕ)). get_elem? l i ≡ some p) known e)),
+        λ i le. k.later i (let n = ap (λ (l : List (Log E × List ℕ)). length l) known in omega arith),
       )

@@ -73,10 +73,12 @@ module _ {E : Type 0} where
     Knows Inside = Sits × Owns × (v.ticket ≡ served) × (out ≡ true) × (v.seen ≡ log)
     Knows Spent = Unit {0}
 
-module _ {S E : Type 0} (history : S → Log E) where
-  -- the cell is at home with this history, or out with a seat
+-- In all of these `led` says whether some calls, the oldest first, led to a cell.
+
+module _ {S E : Type 0} (led : Log E → S → Type 0) where
+  -- the cell is at home, and this history led to it; or it is out with a seat
   abbrev pub Lies : Log E → List (Option S) → Bool → Type 0
-  Lies log homes false = (c : S) × (homes ≡ some c ∷ []) × (history c ≡ log)
+  Lies log homes false = (c : S) × (homes ≡ some c ∷ []) × led log c
   Lies log homes true = homes ≡ none ∷ []
 
   pub record Kept (s : State S (View E)) : Type 0 where
@@ -85,7 +87,7 @@ module _ {S E : Type 0} (history : S → Log E) where
     pub log : Log E
     pub out : Bool
     pub ended : List (Log E × List ℕ)
-    pub words_are : s.words ≡ length owners % 2 ^ 64 ∷ served % 2 ^ 64 ∷ length log ∷ []
+    pub words_are : s.words ≡ length owners % 2 ^ 64 ∷ served % 2 ^ 64 ∷ length log % 2 ^ 64 ∷ []
     pub lies : Lies log s.homes out
     pub drawn : served + turns s.views ≡ length owners
     pub busy : out ≡ true → served < length owners
@@ -94,22 +96,18 @@ module _ {S E : Type 0} (history : S → Log E) where
     pub past : (k : ℕ) (p : Log E × List ℕ) → get_elem? ended k ≡ some p → Begins p.0 log × (places_of k log ≡ p.1)
     pub later : (k : ℕ) → length s.views ≤ suc k → places_of k log ≡ []
 
-  -- the history of the cell that the seat holds
-  abbrev pub held : List (ℕ × S) → Log E
-  held [] = []
-  held (x ∷ xs) = history x.1
-
   -- a look at another's turn tells nothing. At its own the seat takes the cell, and has seen the
   -- whole history
   abbrev pub looked : Step S → Me S (View E) → ℕ → Me S (View E) → Type 0
   looked st m r m' =
       (r ≢ m.0.ticket % 2 ^ 64 → m' ≡ m)
-      × (r ≡ m.0.ticket % 2 ^ 64 → (c : S) × (m' ≡ (seated Inside m.0.caller m.0.ticket (history c) m.0.places, (0, c) ∷ m.1))
-      × Begins m.0.seen (history c) × (places_of m.0.caller (history c) ≡ m.0.places))
+      × (r ≡ m.0.ticket % 2 ^ 64 → (c : S) × (log : Log E) × (m' ≡ (seated Inside m.0.caller m.0.ticket log m.0.places, (0, c) ∷ m.1))
+      × led log c × Begins m.0.seen log × (places_of m.0.caller log ≡ m.0.places))
 
-  -- the place of the call is the length that was found
-  abbrev pub noted : Step S → Me S (View E) → ℕ → Me S (View E) → Type 0
-  noted st m r m' = (r ≡ length m.0.seen) × (m' ≡ (seated Inside m.0.caller m.0.ticket (held m.1) (m.0.places ++ r ∷ []), m.1))
+module _ {S E : Type 0} where
+  -- a call of this kind goes on the history that was seen, at its end
+  abbrev pub noted : (E → Type 0) → Step S → Me S (View E) → ℕ → Me S (View E) → Type 0
+  noted is st m r m' = (x : E) × is x × (m' ≡ (seated Inside m.0.caller m.0.ticket (m.0.seen ++ (m.0.caller, x) ∷ []) (m.0.places ++ length m.0.seen ∷ []), m.1))
 
 module _ {S E : Type 0} where
   abbrev pub drew : Step S → Me S (View E) → ℕ → Me S (View E) → Type 0
@@ -119,26 +117,27 @@ module _ {S E : Type 0} where
   passed st m r m' = m' ≡ (seated Rests m.0.caller 0 m.0.seen m.0.places, [])
 
 module _ {S E : Type 0} where
-  -- a seat that is at no call, with its caller's number and the places of its calls
-  abbrev pub AtRest : Me S (View E) → ℕ → List ℕ → Type 0
-  AtRest m caller places = (m.0.stage ≡ Rests) × (m.1 ≡ []) × (m.0.caller ≡ caller) × (m.0.places ≡ places) × (places_of caller m.0.seen ≡ places)
+  -- a caller's seat that is at no call
+  abbrev pub AtRest : Me S (View E) → ℕ → Type 0
+  AtRest m caller = (m.0.stage ≡ Rests) × (m.1 ≡ []) × (m.0.caller ≡ caller) × (places_of caller m.0.seen ≡ m.0.places)
 
-module _ {S E : Type 0} (history : S → Log E) where
+module _ {S E : Type 0} (led : Log E → S → Type 0) where
   -- the seat has the cell and has seen its whole history, which goes on from what the seat had seen
   -- with none of its own calls
   abbrev pub Entered : Me S (View E) → Me S (View E) → Type 0
-  Entered m m' = (c : S) × (m' ≡ (seated Inside m.0.caller m'.0.ticket (history c) m.0.places, (0, c) ∷ [])) × Begins m.0.seen (history c) × (places_of m.0.caller (history c) ≡ m.0.places)
+  Entered m m' = (c : S) × (log : Log E) × (m' ≡ (seated Inside m.0.caller m'.0.ticket log m.0.places, (0, c) ∷ []))
+      × led log c × Begins m.0.seen log × (places_of m.0.caller log ≡ m.0.places)
 
-  -- the cell in the held slot, with more in its history
-  abbrev pub Visited : Me S (View E) → List (ℕ × E) → Me S (View E) → Type 0
-  Visited m more m' = (d : S) × (m' ≡ (m.0, (0, d) ∷ [])) × (history d ≡ held history m.1 ++ more)
+  -- the cell in the held slot was called, by this call or by none: whatever led to it leads to it
+  -- with these calls behind
+  abbrev pub Visited : Me S (View E) → Log E → Me S (View E) → Type 0
+  Visited m more m' = (d : S) × (m' ≡ (m.0, (0, d) ∷ [])) × ((c : S) → m.1 ≡ (0, c) ∷ [] → (log : Log E) → led log c → led (log ++ more) d)
 
 module _ {S E : Type 0} where
-  -- after a call that was added, with its place
-  abbrev pub Added : Me S (View E) → E → ℕ → Me S (View E) → Type 0
-  Added m x place m' =
-      (between : Log E) × (m' ≡ (seated Rests m.0.caller 0 ((m.0.seen ++ between) ++ (m.0.caller, x) ∷ []) (m.0.places ++ place ∷ []), []))
-      × (place ≡ length (m.0.seen ++ between))
+  -- after a call that was added
+  abbrev pub Added : Me S (View E) → E → Me S (View E) → Type 0
+  Added m x m' =
+      (between : Log E) × (m' ≡ (seated Rests m.0.caller 0 ((m.0.seen ++ between) ++ (m.0.caller, x) ∷ []) (m.0.places ++ length (m.0.seen ++ between) ∷ []), []))
       × (places_of m.0.caller m'.0.seen ≡ m'.0.places)
 
   -- after a call that found no memory
@@ -153,3 +152,11 @@ module _ {E : Type 0} where
 -- each of a list meets P, with its place
 abbrev pub AllAt : {G : Type 0} → (ℕ → G → Type 0) → List G → Type 0
 AllAt {G} P gs = (k : ℕ) (g : G) → get_elem? gs k ≡ some g → P k g
+
+-- A cell, once all seats were taken in: one history led to it. It begins with what each seat had
+-- seen, has each caller's calls at its seat's places, in their order and each once, and no others.
+pub record IsClosed {S E G : Type 0} (led : Log E → S → Type 0) (seen : G → Log E) (places : G → List ℕ) (seats : List G) (cell : S) : Type 0 where
+  pub log : Log E
+  pub led_to : led log cell
+  pub each : AllAt (λ k s. Begins (seen s) log × (places_of k log ≡ places s)) seats
+  pub no_others : (k : ℕ) → length seats ≤ k → places_of k log ≡ []

@@ -5,7 +5,7 @@ ghost use Rattle.play_threads.specs.Board.{Kept, keeper, drew, looked, noted, pa
 use crate::GateCell;
 use atomic_table::{Join, Play, Split, TableRule};
 use std::collections::LinkedList;
-use std::marker::PhantomData;
+use std::marker::{Brand, PhantomData};
 
 /// Where a seat is in a call.
 pub enum Stage {
@@ -41,7 +41,7 @@ pub struct GateRule<C> {
 }
 
 impl<C: GateCell> TableRule<C, View<(C::Ask, C::Answer)>, ()> for GateRule<C> {
-    ghost holds = { λ _. Kept C.history };
+    ghost holds = { λ _. Kept C.led };
 
     ghost first = { λ _. keeper 0 [] };
 }
@@ -57,15 +57,25 @@ pub(crate) struct Looks<C> {
 }
 
 impl<C: GateCell> Play<C, View<(C::Ask, C::Answer)>> for Looks<C> {
-    ghost then = { looked C.history };
+    ghost then = { looked C.led };
 }
 
-pub(crate) struct Notes<C> {
-    cell: PhantomData<C>,
+/// Which call is noted. Each call of `note` picks it.
+pub trait Noted<E> {
+    /// It is this one.
+    ghost is: { E → Type 0 };
 }
 
-impl<C: GateCell> Play<C, View<(C::Ask, C::Answer)>> for Notes<C> {
-    ghost then = { noted C.history };
+impl<E> Noted<E> for Brand {
+    ghost is = { λ _. Unit {0} };
+}
+
+pub(crate) struct Notes<J> {
+    of: PhantomData<J>,
+}
+
+impl<S, E, J: Noted<E>> Play<S, View<E>> for Notes<J> {
+    ghost then = { noted J.is };
 }
 
 pub(crate) struct Passes;

@@ -1,14 +1,15 @@
 //! The gate and its seats.
-ghost use Rattle.std.specs.Prelude.{◌≡◌, ℕ, suc, ◌+◌, ◌%◌, ◌^◌, ◌<◌, ◌≤◌, List, [], ◌∷◌, ◌++◌, length, IfOk, OnOk, OnErr, IfErr, Some, slice_get, slice_index_or, vec_capacity, vec_len};
+ghost use Rattle.std.specs.Prelude.{◌≡◌, ℕ, suc, ◌+◌, ◌%◌, ◌^◌, ◌<◌, ◌≤◌, [], ◌∷◌, ◌++◌, length, IfOk, OnErr, vec_capacity};
 ghost use Rattle.atomic_table.specs.Table.{step};
 ghost use mathlib.Core.Option.{none};
 ghost use Rattle.play_threads.specs.declared.board.Stage.TheVariants.{Keeps, Rests, Waits, Inside, Spent};
-ghost use Rattle.play_threads.specs.Board.{Begins, places_of, keeper as keeper_of, seated, held, drew, passed, AtRest, Entered, Visited, Added, Gave, Adds, AllAt};
+ghost use Rattle.play_threads.specs.Board.{Begins, keeper as keeper_of, seated, drew, passed, AtRest, Entered, Visited, Added, Gave, Adds, AllAt, IsClosed};
 
-use crate::board::{Draws, GateRule, Looks, Notes, Passes, Seats, View};
+use crate::board::{Draws, GateRule, Looks, Noted, Notes, Passes, Seats, View};
 use crate::{GateCell, OutOfMemory};
 use atomic_table::{Seat, Shared, Table};
 use std::alloc::{AllocError, Global};
+use std::marker::Brand;
 use std::sync::Wait;
 
 const TICKET: usize = 0;
@@ -37,14 +38,13 @@ pub type Steps<C> = Shared<
 /// A seat at it, with what it has seen.
 pub type Holder<C> = Seat<C, View<(<C as GateCell>::Ask, <C as GateCell>::Answer)>>;
 
-/// A caller's seat at one gate: it has seen some of the history, and keeps the places of the
-/// caller's own calls in it.
+/// A caller's seat at one gate: it has seen some of the history, and the places of the caller's own
+/// calls in it. It keeps neither: both are for contracts alone.
 #[derive(Drop)]
 pub struct GateSeat<C: GateCell> {
     pub(crate) seat: Holder<C>,
     caller: u32,
-    places: Vec<u64>,
-    ghost at_rest: { AtRest seat.me caller places.items },
+    ghost at_rest: { AtRest seat.me caller },
 }
 
 fn draw<C: GateCell>(steps: &Steps<C>, seat: &mut Holder<C>) -> u64
@@ -61,7 +61,7 @@ fn wait<C: GateCell, R: Wait>(rt: &R, steps: &Steps<C>, seat: &mut Holder<C>, ti
     requires own { (seat.old.table_id ≡ steps.now.table_id) × (steps.now.table_id.words ≡ 3) × (steps.now.table_id.slots ≡ 1) }
     requires waits { (seat.old.me.0.stage ≡ Waits) × (seat.old.me.1 ≡ []) × (ticket ≡ seat.old.me.0.ticket % 2 ^ 64) }
     ensures same { seat.new.table_id ≡ seat.old.table_id }
-    ensures entered { Entered C.history seat.old.me seat.new.me × (seat.new.me.0.ticket ≡ seat.old.me.0.ticket) }
+    ensures entered { Entered C.led seat.old.me seat.new.me × (seat.new.me.0.ticket ≡ seat.old.me.0.ticket) }
 {
     for _ in rt.forever() {
         let found = steps.load::<Looks<C>>(seat, SERVING);
@@ -83,31 +83,37 @@ fn visit<C: GateCell>(
     requires own { seat.old.table_id ≡ steps.now.table_id }
     requires holds { (c : C) × (seat.old.me.1 ≡ (0, c) ∷ []) }
     ensures same { (seat.new.table_id ≡ seat.old.table_id) × (seat.new.id ≡ seat.old.id) }
-    ensures ok { IfOk result (λ a. Visited C.history seat.old.me ((caller, (ask.now, a)) ∷ []) seat.new.me) }
+    ensures ok { IfOk result (λ a. Visited C.led seat.old.me ((caller, (ask.now, a)) ∷ []) seat.new.me) }
     ensures fits { IfOk result (λ a. C.fits ask.now a) }
-    ensures room { OnOk result (length (held C.history seat.new.me.1) < 2 ^ 63) }
-    ensures err { OnErr result (Visited C.history seat.old.me [] seat.new.me) }
+    ensures err { OnErr result (Visited C.led seat.old.me [] seat.new.me) }
+    ensures lacks { OnErr result C.lacks }
 {
     seat.slot_mut(steps, 0).act(caller, ask)
 }
 
-// Fixes the call's place. It is the length that is found.
-fn note<C: GateCell>(steps: &Steps<C>, seat: &mut Holder<C>) -> u64
+// Puts the call at the end of the history, of whose length the word has the low bits.
+fn note<C: GateCell, J: Noted<(C::Ask, C::Answer)>>(
+    steps: &Steps<C>,
+    seat: &mut Holder<C>,
+    ask: &C::Ask,
+    answer: &C::Answer,
+)
     requires own { (seat.old.table_id ≡ steps.now.table_id) × (steps.now.table_id.words ≡ 3) × (steps.now.table_id.slots ≡ 1) }
     requires inside { seat.old.me.0.stage ≡ Inside }
-    requires called { (c : C) × (x : C.Ask × C.Answer) × (seat.old.me.1 ≡ (0, c) ∷ []) × (C.history c ≡ seat.old.me.0.seen ++ (seat.old.me.0.caller, x) ∷ []) × (length (C.history c) < 2 ^ 63) }
+    requires is { J.is (ask.now, answer.now) }
     ensures same { seat.new.table_id ≡ seat.old.table_id }
-    ensures place { result ≡ length seat.old.me.0.seen }
-    ensures noted { seat.new.me ≡ (seated Inside seat.old.me.0.caller seat.old.me.0.ticket (held C.history seat.old.me.1) (seat.old.me.0.places ++ result ∷ []), seat.old.me.1) }
+    ensures noted { (x : C.Ask × C.Answer) × J.is x × (seat.new.me ≡ (seated Inside seat.old.me.0.caller seat.old.me.0.ticket (seat.old.me.0.seen ++ (seat.old.me.0.caller, x) ∷ []) (seat.old.me.0.places ++ length seat.old.me.0.seen ∷ []), seat.old.me.1)) }
 {
-    steps.fetch_add::<Notes<C>>(seat, LENGTH, 1)
+    let _ = ask;
+    let _ = answer;
+    let _ = steps.fetch_add::<Notes<J>>(seat, LENGTH, 1);
 }
 
 // Gives the cell back, and lets the next one in.
 fn pass_on<C: GateCell>(steps: &Steps<C>, seat: &mut Holder<C>, ticket: u64)
     requires own { (seat.old.table_id ≡ steps.now.table_id) × (steps.now.table_id.words ≡ 3) × (steps.now.table_id.slots ≡ 1) }
     requires inside { (seat.old.me.0.stage ≡ Inside) × (ticket ≡ seat.old.me.0.ticket % 2 ^ 64) }
-    requires seen { (c : C) × (seat.old.me.1 ≡ (0, c) ∷ []) × (C.history c ≡ seat.old.me.0.seen) }
+    requires seen { (c : C) × (seat.old.me.1 ≡ (0, c) ∷ []) × C.led seat.old.me.0.seen c }
     ensures same { seat.new.table_id ≡ seat.old.table_id }
     ensures passed { seat.new.me ≡ (seated Rests seat.old.me.0.caller 0 seat.old.me.0.seen seat.old.me.0.places, []) }
 {
@@ -120,7 +126,7 @@ fn enter<C: GateCell, R: Wait>(rt: &R, steps: &Steps<C>, seat: &mut Holder<C>) -
     requires own { (seat.old.table_id ≡ steps.now.table_id) × (steps.now.table_id.words ≡ 3) × (steps.now.table_id.slots ≡ 1) }
     requires rests { (seat.old.me.0.stage ≡ Rests) × (seat.old.me.1 ≡ []) }
     ensures same { seat.new.table_id ≡ seat.old.table_id }
-    ensures entered { Entered C.history seat.old.me seat.new.me }
+    ensures entered { Entered C.led seat.old.me seat.new.me }
     ensures ticket { result ≡ seat.new.me.0.ticket % 2 ^ 64 }
 {
     let ticket = draw(steps, seat);
@@ -128,27 +134,28 @@ fn enter<C: GateCell, R: Wait>(rt: &R, steps: &Steps<C>, seat: &mut Holder<C>) -
     ticket
 }
 
-// One call, with its place.
+// One call.
 fn call<C: GateCell, R: Wait>(
     rt: &R,
     steps: &Steps<C>,
     seat: &mut Holder<C>,
     caller: u32,
     ask: &C::Ask,
-) -> Result<(u64, C::Answer), OutOfMemory>
+) -> Result<C::Answer, OutOfMemory>
     requires own { (seat.old.table_id ≡ steps.now.table_id) × (steps.now.table_id.words ≡ 3) × (steps.now.table_id.slots ≡ 1) }
     requires rests { (seat.old.me.0.stage ≡ Rests) × (seat.old.me.1 ≡ []) × (seat.old.me.0.caller ≡ caller) }
     ensures same { seat.new.table_id ≡ seat.old.table_id }
-    ensures ok { IfOk result (λ r. Added seat.old.me (ask.now, r.1) r.0 seat.new.me) }
-    ensures fits { IfOk result (λ r. C.fits ask.now r.1) }
+    ensures ok { IfOk result (λ a. Added seat.old.me (ask.now, a) seat.new.me) }
+    ensures fits { IfOk result (λ a. C.fits ask.now a) }
     ensures err { OnErr result (Gave seat.old.me seat.new.me) }
+    ensures lacks { OnErr result C.lacks }
 {
     let ticket = enter(rt, steps, seat);
     match visit(steps, seat, caller, ask) {
         Ok(answer) => {
-            let place = note(steps, seat);
+            note::<C, Brand>(steps, seat, ask, &answer);
             pass_on(steps, seat, ticket);
-            Ok((place, answer))
+            Ok(answer)
         }
         Err(refused) => {
             pass_on(steps, seat, ticket);
@@ -162,15 +169,13 @@ fn call<C: GateCell, R: Wait>(
 pub struct Gate<C: GateCell> {
     table: Board<C>,
     seats: u32,
-    lists: Vec<Vec<u64>>,
     ghost shape: { (table.shared.table_id.words ≡ 3) × (table.shared.table_id.slots ≡ 1) },
-    ghost room: { (lists.items ≡ []) × (seats ≤ vec_capacity lists) },
 }
 
 impl<C: GateCell> Gate<C> {
     /// Waits for the seat's turn, and calls the cell. The call stands in the history with this
     /// caller, after all that the seat had seen, and between the two no call is the caller's.
-    /// `OutOfMemory` where the seat or the cell lacks memory; nothing is listed then.
+    /// `OutOfMemory` where the cell lacks memory; no call is added then.
     pub fn act<R: Wait>(
         &self,
         rt: &R,
@@ -179,17 +184,12 @@ impl<C: GateCell> Gate<C> {
     ) -> Result<C::Answer, OutOfMemory>
         requires own { me.old.seat.table_id ≡ self.now.table.shared.table_id }
         ensures own { (me.new.seat.table_id ≡ me.old.seat.table_id) × (me.new.caller ≡ me.old.caller) }
-        ensures ok { IfOk result (λ a. Adds me.old.seat.me.0.seen me.old.places.items (me.old.caller, (ask.now, a)) me.new.seat.me.0.seen me.new.places.items) }
+        ensures ok { IfOk result (λ a. Adds me.old.seat.me.0.seen me.old.seat.me.0.places (me.old.caller, (ask.now, a)) me.new.seat.me.0.seen me.new.seat.me.0.places) }
         ensures fits { IfOk result (λ a. C.fits ask.now a) }
-        ensures err { OnErr result (Begins me.old.seat.me.0.seen me.new.seat.me.0.seen × (me.new.places.items ≡ me.old.places.items)) }
+        ensures err { OnErr result (Begins me.old.seat.me.0.seen me.new.seat.me.0.seen × (me.new.seat.me.0.places ≡ me.old.seat.me.0.places)) }
+        ensures lacks { OnErr result C.lacks }
     {
-        let Ok(()) = me.places.reserve(1) else {
-            return Err(AllocError);
-        };
-        let steps = &self.table.shared;
-        let (place, answer) = call(rt, steps, &mut me.seat, me.caller, ask)?;
-        me.places.push_reserved(place);
-        Ok(answer)
+        call(rt, &self.table.shared, &mut me.seat, me.caller, ask)
     }
 }
 
@@ -201,63 +201,34 @@ pub struct Keeper<C: GateCell> {
     ghost kept: { seat.me ≡ (keeper_of made [], []) },
 }
 
-/// What a gate leaves.
-#[derive(Drop)]
-pub struct Closed<C> {
-    pub cell: C,
-    /// The places of each caller's calls, by its number.
-    pub places: Vec<Vec<u64>>,
-}
-
 // Makes the next seat.
-fn next_seat<C: GateCell>(
-    alloc: Global,
-    steps: &Steps<C>,
-    keeper: &mut Holder<C>,
-    made: u32,
-) -> GateSeat<C>
+fn next_seat<C: GateCell>(steps: &Steps<C>, keeper: &mut Holder<C>, made: u32) -> GateSeat<C>
     requires own { (keeper.old.table_id ≡ steps.now.table_id) × (steps.now.table_id.words ≡ 3) × (steps.now.table_id.slots ≡ 1) }
     requires keeps { keeper.old.me ≡ (keeper_of made [], []) }
     requires few { made + 2 ≤ 2 ^ 32 }
     ensures same { keeper.new.table_id ≡ keeper.old.table_id }
     ensures keeps { keeper.new.me ≡ (keeper_of (made + 1) [], []) }
-    ensures seat { (result.seat.table_id ≡ keeper.old.table_id) × (result.caller ≡ made) × (result.seat.me.0.seen ≡ []) × (result.places.items ≡ []) }
+    ensures seat { (result.seat.table_id ≡ keeper.old.table_id) × (result.caller ≡ made) × (result.seat.me.0.seen ≡ []) × (result.seat.me.0.places ≡ []) }
 {
     let seat = steps.split_seat::<Seats>(keeper);
-    GateSeat {
-        seat,
-        caller: made,
-        places: Vec::new(alloc),
-    }
+    GateSeat { seat, caller: made }
 }
 
 // Takes in the seat whose turn it is.
-fn take_in<C: GateCell>(
-    steps: &Steps<C>,
-    keeper: &mut Holder<C>,
-    seat: GateSeat<C>,
-    made: u32,
-) -> Vec<u64>
+fn take_in<C: GateCell>(steps: &Steps<C>, keeper: &mut Holder<C>, seat: GateSeat<C>, made: u32)
     requires own { (keeper.old.table_id ≡ steps.now.table_id) × (seat.seat.table_id ≡ steps.now.table_id) × (steps.now.table_id.words ≡ 3) × (steps.now.table_id.slots ≡ 1) }
     requires keeps { keeper.old.me ≡ (keeper_of made keeper.old.me.0.ended, []) }
     requires next { seat.caller ≡ length keeper.old.me.0.ended }
     ensures same { keeper.new.table_id ≡ keeper.old.table_id }
-    ensures keeps { keeper.new.me ≡ (keeper_of made (keeper.old.me.0.ended ++ (seat.seat.me.0.seen, seat.places.items) ∷ []), []) }
-    ensures places { result ≡ seat.places }
+    ensures keeps { keeper.new.me ≡ (keeper_of made (keeper.old.me.0.ended ++ (seat.seat.me.0.seen, seat.seat.me.0.places) ∷ []), []) }
 {
-    let GateSeat {
-        seat,
-        caller: _,
-        places,
-    } = seat;
+    let GateSeat { seat, caller: _ } = seat;
     steps.join_seat::<Seats>(keeper, seat);
-    places
 }
 
 impl<C: GateCell> Gate<C> {
-    /// A gate round this cell, whose history is empty, with so many seats, of the callers from 0
-    /// on, and the keeper that takes them in at the end. `OutOfMemory` where the table or the lists
-    /// can't be made.
+    /// A gate round this cell, to which no call led, with so many seats, of the callers from 0 on,
+    /// and the keeper that takes them in at the end. `OutOfMemory` where the table can't be made.
     pub fn new(
         alloc: Global,
         cell: C,
@@ -265,15 +236,11 @@ impl<C: GateCell> Gate<C> {
     ) -> Result<(Gate<C>, Vec<GateSeat<C>>, Keeper<C>), OutOfMemory>
     where
         C: Drop,
-        requires some { 0 < seats }
-        requires empty { C.history cell ≡ [] }
+        requires empty { C.led [] cell }
         ensures count { IfOk result (λ g. (g.0.seats ≡ seats) × (length g.1.items ≡ seats) × (g.2.made ≡ seats) × (g.2.seat.table_id ≡ g.0.table.shared.table_id)) }
-        ensures each { IfOk result (λ g. AllAt (λ k s. (s.seat.table_id ≡ g.0.table.shared.table_id) × (s.caller ≡ k) × (s.seat.me.0.seen ≡ []) × (s.places.items ≡ [])) g.1.items) }
+        ensures each { IfOk result (λ g. AllAt (λ k s. (s.seat.table_id ≡ g.0.table.shared.table_id) × (s.caller ≡ k) × (s.seat.me.0.seen ≡ []) × (s.seat.me.0.places ≡ [])) g.1.items) }
     {
         let count = seats as usize;
-        let Ok(lists) = Vec::with_capacity(alloc, count) else {
-            return Err(AllocError);
-        };
         let Ok(mut row) = Vec::with_capacity(alloc, count) else {
             return Err(AllocError);
         };
@@ -285,13 +252,9 @@ impl<C: GateCell> Gate<C> {
             return Err(AllocError);
         };
         for k in 0..seats {
-            row.push_reserved(next_seat(alloc, &table.shared, &mut keeper, k));
+            row.push_reserved(next_seat(&table.shared, &mut keeper, k));
         }
-        let gate = Gate {
-            table,
-            seats,
-            lists,
-        };
+        let gate = Gate { table, seats };
         let keeper = Keeper {
             seat: keeper,
             made: seats,
@@ -299,35 +262,26 @@ impl<C: GateCell> Gate<C> {
         Ok((gate, row, keeper))
     }
 
-    /// The cell, and the places of each caller's calls in its history: there they stand, in their
-    /// order and each once, and nowhere else. All seats of this gate are given back, in the order
-    /// of their callers.
-    pub fn close(self, seats: Vec<GateSeat<C>>, keeper: Keeper<C>) -> Closed<C>
+    /// The cell. One history led to it: there each caller's calls stand at the places that its seat
+    /// has seen, in their order and each once, and no others. All seats of this gate are given back,
+    /// in the order of their callers.
+    pub fn close(self, seats: Vec<GateSeat<C>>, keeper: Keeper<C>) -> C
         requires keeper { (keeper.made ≡ self.seats) × (keeper.seat.table_id ≡ self.table.shared.table_id) }
         requires all { length seats.items ≡ self.seats }
         requires own { AllAt (λ k s. (s.seat.table_id ≡ self.table.shared.table_id) × (s.caller ≡ k)) seats.items }
-        ensures count { length result.places.items ≡ self.seats }
-        ensures callers { (k : ℕ) → self.seats ≤ k → places_of k (C.history result.cell) ≡ [] }
-        ensures each { AllAt (λ k s. Begins s.seat.me.0.seen (C.history result.cell) × (places_of k (C.history result.cell) ≡ s.places.items) × (slice_get result.places.items k ≡ Some s.places)) seats.items }
+        ensures closed { IsClosed C.led (λ s. s.seat.me.0.seen) (λ s. s.seat.me.0.places) seats.items result }
     {
-        let Gate {
-            table,
-            seats: made,
-            mut lists,
-        } = self;
+        let Gate { table, seats: made } = self;
         let Keeper {
             seat: mut keeper,
             made: _,
         } = keeper;
         for seat in seats {
-            lists.push_reserved(take_in(&table.shared, &mut keeper, seat, made));
+            take_in(&table.shared, &mut keeper, seat, made);
         }
         let mut closed = table.close_with(keeper);
         let cell = closed.take(0);
         closed.free();
-        Closed {
-            cell,
-            places: lists,
-        }
+        cell
     }
 }

@@ -81,9 +81,11 @@ impl<N: CutNode> GateCell for GatedNode<N> {
 
     type Answer = NodeAnswer;
 
-    ghost history = { entries_of };
+    ghost led = { λ log lines. entries_of lines ≡ log };
 
     ghost fits = { FitsAsk };
+
+    ghost lacks = { Unit {0} };
 
     #[tactic(auto, using(crate::proofs::NodeLaws::locals))]
     fn act(&mut self, caller: u32, ask: &NodeAsk) -> Result<NodeAnswer, OutOfMemory> {

@@ -10,7 +10,7 @@ ghost use Rattle.play_threads.specs.Entries.{own_lines};
 ghost use Rattle.play_threads.specs.Seated.{seat_of, Seat};
 ghost use Rattle.play_threads.specs.Gates.{zip_snoc, dealt, fresh_columns, row_at, AreOf, IsLeft};
 
-use crate::gate::{Closed, Gate, GateSeat, Keeper};
+use crate::gate::{Gate, GateSeat, Keeper};
 use crate::gated_node::GatedNode;
 use journal_core::{CutNode, OutOfMemory};
 use journal_history::HistoryList;
@@ -108,7 +108,7 @@ fn close_gate<N: CutNode + Drop>(
     ensures state { IfOk result (λ parts. N.state parts.0 ≡ Some (cell_after fresh_cell parts.1).state) }
     ensures steady { IfOk result (λ parts. N.steady parts.0) }
 {
-    let Closed { cell, places: _ } = gate.close(seats, keeper);
+    let cell = gate.close(seats, keeper);
     cell.into_parts()
 }
 

@@ -7,3 +7,4 @@ pub mod RequestLaws
 pub mod CompleteLaws
 pub mod MirrorLaws
 pub mod JudgeLaws
+pub mod WriteLaws

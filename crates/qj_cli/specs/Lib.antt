@@ -8,3 +8,4 @@ pub mod Does
 pub mod Complete
 pub mod Judging
 pub mod Due
+pub mod Written

@@ -11,7 +11,7 @@ use Rattle.cli_commands.specs.declared.status.Status.TheVariants as status
 use Rattle.cli_commands.specs.declared.command_fault.CommandFault.{CommandFault}
 use Rattle.cli_commands.specs.declared.command_fault.CommandFault.TheVariants as fault
 use Rattle.cli_commands.specs.Uses.{SourceUse, SinkUse, AReadFailed, NoReadFailed}
-use Rattle.cli_commands.specs.Told.{Told}
+use Rattle.cli_commands.specs.Told.{TellsText, Told}
 use Rattle.qj_cli.specs.Report.{IsPrinted, HasLongReport}
 
 abbrev pub longest_script : ℕ
@@ -102,6 +102,10 @@ IsPlayFault Leaves source (fault.Limit number) = (number ≡ longest_script) × 
 IsPlayFault Leaves source fault.ReadFault = AReadFailed source
 IsPlayFault Leaves source fault.OutOfMemory = NoReadFailed source
 IsPlayFault Leaves source _ = ⊥
+
+-- what is due was written, or a front of it, and a write failed
+abbrev pub Writes : (Status → List ℕ → Type 0) → Status → SinkUse → Type 0
+Writes Gives s sink = (good : Status) × (text : List ℕ) × Gives good text × TellsText good text s sink
 
 -- How a play ended.
 abbrev pub Plays : (ScriptView → Mesh → List End → Type 0) → SourceUse → SinkUse → Status → Type 0

@@ -1,24 +1,26 @@
-//! What is due of a script over whose nodes a fresh standby boots, before any of it is written.
+//! A fresh standby boots over the nodes of a script's play, and what it comes to is written.
 ghost use Rattle.std.specs.Prelude.{◌≡◌, ◌≢◌, ◌≤◌, true, length, IfOk, IfErr};
 ghost use Rattle.play_script.specs.Grammar.{IsScript, IsScriptText};
 ghost use Rattle.play_report.specs.Booted.{booted_text, unreachable_text, booted_behind_text};
 ghost use Rattle.play_report.specs.Limit.{longest_report};
 ghost use Rattle.cli_commands.specs.Uses.{read_from, written_to};
-ghost use Rattle.qj_cli.specs.Plays.{IsReportFault};
+ghost use Rattle.cli_commands.specs.Told.{TellsText};
+ghost use Rattle.qj_cli.specs.Plays.{IsReportFault, Writes};
 ghost use Rattle.qj_cli.specs.Boots.{MayCome, answer_text, IsNamesFault, GivesNames, BootsPlay, IsFirstDisk, GivesBooted, IsBootFault, Boots};
 
 use crate::mirroring::know_segments;
 use crate::playing::{LONGEST_SCRIPT, script_of_bytes};
 use crate::plays::play_leaving;
+use crate::written::write_printed;
 use base_disk::MemDisk;
 use base_outside::{Input, Sink, Source, read_all};
-use cli_commands::{CommandFault, Status, write_due};
+use cli_commands::{CommandFault, Status, write_fault, write_text};
 use journal_core::OutOfMemory;
 use ns_tree::{LastSpace, RowList};
 use play_boot::{Booted, boot_nodes};
 use play_laws::{end_reads_are_on_line, finals_are_on_line, images_are_left, line_replays};
 use play_model::{one_script_has_one_play, scripts_are_playable};
-use play_report::{LONGEST_REPORT, Report, print_booted, print_booted_behind, print_unreachable};
+use play_report::{BootText, LONGEST_REPORT, print_booted_behind, print_unreachable};
 use play_script::{Script, others_have_names, raw_line};
 use play_standby::Standby;
 use std::alloc::Global;
@@ -91,14 +93,17 @@ fn boot_played(alloc: Global, script: &Script) -> Result<Booted, OutOfMemory>
     Ok(booted)
 }
 
-/// The text of a standby that began, with its rows, which are never given back.
-fn text_of_standby(
+/// Writes what is told of a standby that began, with its rows, which are never given back.
+fn write_standby<K: Sink>(
     alloc: Global,
+    sink: &mut K,
     standby: Standby,
     image: Option<u64>,
-) -> Result<Vec<u8>, CommandFault>
-    ensures text { IfOk result (λ text. (text.items ≡ booted_text image (record { position = standby.position; rows = standby.space.pairs })) × (length text.items ≤ longest_report)) }
+) -> Result<Status, CommandFault>
+    ensures text { IfOk result (λ s. TellsText Status.Ok (booted_text image (record { position = standby.position; rows = standby.space.pairs })) s (written_to K.taken K.faults K.kept_back sink.old sink.new)) }
+    ensures within { IfOk result (λ s. length (booted_text image (record { position = standby.position; rows = standby.space.pairs })) ≤ longest_report) }
     ensures fault { IfErr result (IsReportFault (booted_text image (record { position = standby.position; rows = standby.space.pairs }))) }
+    ensures still { IfErr result (λ fault. sink.new ≡ sink.old) }
 {
     let (namespace, position) = standby.into_parts();
     let Ok(rows) = namespace.into_rows(alloc) else {
@@ -108,54 +113,75 @@ fn text_of_standby(
         position,
         rows: RowList::of(rows),
     };
-    let printed = print_booted(alloc, image, &last);
+    let told = BootText { image, last: &last };
+    let written = write_printed(alloc, sink, &told);
     mem::forget(last);
-    match printed {
-        Ok(Report::Text(text)) => Ok(text),
-        Ok(Report::TooLong) => Err(CommandFault::Limit(LONGEST_REPORT as u64)),
-        Err(_) => Err(CommandFault::OutOfMemory),
-    }
+    written
 }
 
-/// A text that isn't longer than a report may be.
-fn bounded_text(text: Vec<u8>) -> Result<Vec<u8>, CommandFault>
-    ensures text { IfOk result (λ made. (made.items ≡ text.items) × (length made.items ≤ longest_report)) }
+/// Writes a text, where it isn't longer than a report may be.
+fn write_bounded<K: Sink>(sink: &mut K, text: Vec<u8>) -> Result<Status, CommandFault>
+    ensures text { IfOk result (λ s. TellsText Status.Ok text.items s (written_to K.taken K.faults K.kept_back sink.old sink.new)) }
+    ensures within { IfOk result (λ s. length text.items ≤ longest_report) }
     ensures fault { IfErr result (IsReportFault text.items) }
+    ensures still { IfErr result (λ fault. sink.new ≡ sink.old) }
 {
     if text.len() <= LONGEST_REPORT {
-        Ok(text)
+        Ok(write_text(sink, Status::Ok, &text))
     } else {
         Err(CommandFault::Limit(LONGEST_REPORT as u64))
     }
 }
 
-/// The text of a standby that the log doesn't reach.
-fn text_of_unreachable(alloc: Global, have: u64, first: u64) -> Result<Vec<u8>, CommandFault>
-    ensures text { IfOk result (λ text. (text.items ≡ unreachable_text have first) × (length text.items ≤ longest_report)) }
+/// Writes what is told of a standby that the log doesn't reach.
+fn write_unreachable<K: Sink>(
+    alloc: Global,
+    sink: &mut K,
+    have: u64,
+    first: u64,
+) -> Result<Status, CommandFault>
+    ensures text { IfOk result (λ s. TellsText Status.Ok (unreachable_text have first) s (written_to K.taken K.faults K.kept_back sink.old sink.new)) }
+    ensures within { IfOk result (λ s. length (unreachable_text have first) ≤ longest_report) }
     ensures fault { IfErr result (IsReportFault (unreachable_text have first)) }
+    ensures still { IfErr result (λ fault. sink.new ≡ sink.old) }
 {
-    bounded_text(print_unreachable(alloc, have, first)?)
+    let text = print_unreachable(alloc, have, first)?;
+    write_bounded(sink, text)
 }
 
-/// The text of a standby that too few nodes answered.
-fn text_of_behind(alloc: Global, txid: u64, causes: &[Cause]) -> Result<Vec<u8>, CommandFault>
-    ensures text { IfOk result (λ text. (text.items ≡ booted_behind_text txid causes.now) × (length text.items ≤ longest_report)) }
+/// Writes what is told of a standby that too few nodes answered.
+fn write_behind<K: Sink>(
+    alloc: Global,
+    sink: &mut K,
+    txid: u64,
+    causes: &[Cause],
+) -> Result<Status, CommandFault>
+    ensures text { IfOk result (λ s. TellsText Status.Ok (booted_behind_text txid causes.now) s (written_to K.taken K.faults K.kept_back sink.old sink.new)) }
+    ensures within { IfOk result (λ s. length (booted_behind_text txid causes.now) ≤ longest_report) }
     ensures fault { IfErr result (IsReportFault (booted_behind_text txid causes.now)) }
+    ensures still { IfErr result (λ fault. sink.new ≡ sink.old) }
 {
-    bounded_text(print_booted_behind(alloc, txid, causes)?)
+    let text = print_booted_behind(alloc, txid, causes)?;
+    write_bounded(sink, text)
 }
 
-/// The text of what came of a bootstrap over the nodes of a play. It has none where memory was
+/// Writes what came of a bootstrap over the nodes of a play. It has no text where memory was
 /// wanting.
-fn text_of_booted(alloc: Global, booted: Booted) -> Result<Vec<u8>, CommandFault>
+fn write_booted<K: Sink>(
+    alloc: Global,
+    sink: &mut K,
+    booted: Booted,
+) -> Result<Status, CommandFault>
     requires { MayCome booted }
-    ensures text { IfOk result (λ text. (text.items ≡ answer_text booted) × (length text.items ≤ longest_report) × (booted ≢ Booted.OutOfMemory)) }
+    ensures text { IfOk result (λ s. TellsText Status.Ok (answer_text booted) s (written_to K.taken K.faults K.kept_back sink.old sink.new)) }
+    ensures within { IfOk result (λ s. (length (answer_text booted) ≤ longest_report) × (booted ≢ Booted.OutOfMemory)) }
     ensures fault { IfErr result (IsReportFault (answer_text booted)) }
+    ensures still { IfErr result (λ fault. sink.new ≡ sink.old) }
 {
     match booted {
-        Booted::Done { standby, image } => text_of_standby(alloc, standby, image),
-        Booted::Unreachable { have, first } => text_of_unreachable(alloc, have, first),
-        Booted::Behind { txid, causes } => text_of_behind(alloc, txid, causes.as_slice()),
+        Booted::Done { standby, image } => write_standby(alloc, sink, standby, image),
+        Booted::Unreachable { have, first } => write_unreachable(alloc, sink, have, first),
+        Booted::Behind { txid, causes } => write_behind(alloc, sink, txid, causes.as_slice()),
         Booted::OutOfMemory => Err(CommandFault::OutOfMemory),
         Booted::NotEmpty { .. }
         | Booted::DigestDiffers { .. }
@@ -166,17 +192,22 @@ fn text_of_booted(alloc: Global, booted: Booted) -> Result<Vec<u8>, CommandFault
     }
 }
 
-/// Reads the source, plays its script in order, and tells what a fresh standby comes to over its
+/// Reads the source, plays its script in order, and writes what a fresh standby comes to over its
 /// nodes. The script is never given back: the process ends once the text is written.
-fn due_of_boot<S: Source>(alloc: Global, source: &mut S) -> Result<Vec<u8>, CommandFault>
-    ensures text { IfOk result (λ text. GivesBooted (read_from S.left S.faults source.old source.new) Status.Ok text.items) }
+fn boot_source<S: Source, K: Sink>(
+    alloc: Global,
+    source: &mut S,
+    sink: &mut K,
+) -> Result<Status, CommandFault>
+    ensures text { IfOk result (λ s. Writes (GivesBooted (read_from S.left S.faults source.old source.new)) s (written_to K.taken K.faults K.kept_back sink.old sink.new)) }
     ensures fault { IfErr result (IsBootFault (read_from S.left S.faults source.old source.new)) }
+    ensures still { IfErr result (λ fault. sink.new ≡ sink.old) }
 {
     let script = read_names(alloc, source)?;
     let booted = boot_played(alloc, &script);
     mem::forget(script);
     match booted {
-        Ok(booted) => text_of_booted(alloc, booted),
+        Ok(booted) => write_booted(alloc, sink, booted),
         Err(_) => Err(CommandFault::OutOfMemory),
     }
 }
@@ -187,6 +218,8 @@ fn due_of_boot<S: Source>(alloc: Global, source: &mut S) -> Result<Vec<u8>, Comm
 pub fn boot_script<S: Source, K: Sink>(alloc: Global, source: &mut S, sink: &mut K) -> Status
     ensures { Boots (read_from S.left S.faults source.old source.new) (written_to K.taken K.faults K.kept_back sink.old sink.new) result }
 {
-    let due = due_of_boot(alloc, source);
-    write_due(alloc, sink, &due)
+    match boot_source(alloc, source, sink) {
+        Ok(status) => status,
+        Err(fault) => write_fault(alloc, sink, &fault),
+    }
 }

@@ -4,6 +4,7 @@
 #![tactic(auto)]
 
 mod booting;
+mod buffer;
 mod generating;
 mod judging;
 mod laws;
@@ -11,6 +12,7 @@ mod mirroring;
 mod playing;
 mod plays;
 mod top;
+mod written;
 
 pub use laws::{
     files_have_one_listing, numbers_have_one_summary, reports_show_no_fault, scripts_have_one_boot,

@@ -1,19 +1,19 @@
-//! What is due of a script, before any of it is written.
+//! A script is played, and its report is written.
 ghost use Rattle.std.specs.Prelude.{◌≡◌, ◌≤◌, IfOk, IfErr, length};
 ghost use Rattle.play_script.specs.Grammar.{IsScriptText};
 ghost use Rattle.play_report.specs.Text.{text_of};
 ghost use Rattle.play_report.specs.Limit.{longest_report};
 ghost use Rattle.qj_cli.specs.Sound.{AreSound, ComeOf};
 ghost use Rattle.cli_commands.specs.Uses.{read_from, written_to};
-ghost use Rattle.qj_cli.specs.Plays.{GivesScript, IsTextFault, IsReadingFault, IsReportFault, GivesReport, IsPlayFault, Plays};
+ghost use Rattle.cli_commands.specs.Told.{TellsText};
+ghost use Rattle.qj_cli.specs.Plays.{GivesScript, IsTextFault, IsReadingFault, IsReportFault, GivesReport, IsPlayFault, Writes, Plays};
 
 use crate::plays::{play_soundly, run_soundly};
+use crate::written::write_printed;
 use base_outside::{Input, Sink, Source, read_all};
-use cli_commands::{CommandFault, Status, write_due};
-use mesh::Mesh;
-use ns_tree::EndList;
+use cli_commands::{CommandFault, Status, write_fault};
 use play_model::Played;
-use play_report::{LONGEST_REPORT, Report, report_of};
+use play_report::ReportText;
 use play_script::{ReadScript, Script, read_script};
 use play_threads::Pass;
 use std::alloc::Global;
@@ -58,65 +58,67 @@ pub(crate) fn read_source<S: Source>(alloc: Global, source: &mut S) -> Result<Sc
     }
 }
 
-/// The report of the lists that a script left.
-fn due_of_lists(alloc: Global, mesh: &Mesh, ends: &EndList) -> Result<Vec<u8>, CommandFault>
-    ensures text { IfOk result (λ text. (text.items ≡ text_of mesh.now ends.now) × (length text.items ≤ longest_report)) }
-    ensures fault { IfErr result (IsReportFault (text_of mesh.now ends.now)) }
-{
-    match report_of(alloc, mesh, ends) {
-        Ok(Report::Text(text)) => Ok(text),
-        Ok(Report::TooLong) => Err(CommandFault::Limit(LONGEST_REPORT as u64)),
-        Err(_) => Err(CommandFault::OutOfMemory),
-    }
-}
-
-/// The report of what a script's play left. The nodes' disks and the script are given back before
-/// it is made. The lists never are: the process ends once the report is written, and to give back
-/// their small pieces one by one would take a tenth of the play's time.
-fn due_of_played<N: Drop>(
+/// Writes the report of what a script's play left. The nodes' disks and the script are given back
+/// before it is printed. The lists never are: the process ends once the report is written, and to
+/// give back their small pieces one by one would take a tenth of the play's time.
+pub(crate) fn write_played<N: Drop, K: Sink>(
     alloc: Global,
+    sink: &mut K,
     script: Script,
     played: Played<N>,
-) -> Result<Vec<u8>, CommandFault>
-    ensures text { IfOk result (λ text. (text.items ≡ text_of played.mesh played.ends) × (length text.items ≤ longest_report)) }
+) -> Result<Status, CommandFault>
+    ensures text { IfOk result (λ s. TellsText Status.Ok (text_of played.mesh played.ends) s (written_to K.taken K.faults K.kept_back sink.old sink.new)) }
+    ensures within { IfOk result (λ s. length (text_of played.mesh played.ends) ≤ longest_report) }
     ensures fault { IfErr result (IsReportFault (text_of played.mesh played.ends)) }
+    ensures still { IfErr result (λ fault. sink.new ≡ sink.old) }
 {
     let Played { mesh, ends, nodes } = played;
     drop(nodes);
     drop(script);
-    let due = due_of_lists(alloc, &mesh, &ends);
+    let report = ReportText {
+        mesh: &mesh,
+        ends: &ends,
+    };
+    let written = write_printed(alloc, sink, &report);
     mem::forget(mesh);
     mem::forget(ends);
-    due
+    written
 }
 
-/// Reads the source and tells what is due of its script, played in order.
-fn due_in_order<S: Source>(alloc: Global, source: &mut S) -> Result<Vec<u8>, CommandFault>
-    ensures text { IfOk result (λ text. GivesReport ComeOf (read_from S.left S.faults source.old source.new) Status.Ok text.items) }
+/// Reads the source and plays its script in order, and writes the report.
+fn play_source<S: Source, K: Sink>(
+    alloc: Global,
+    source: &mut S,
+    sink: &mut K,
+) -> Result<Status, CommandFault>
+    ensures text { IfOk result (λ s. Writes (GivesReport ComeOf (read_from S.left S.faults source.old source.new)) s (written_to K.taken K.faults K.kept_back sink.old sink.new)) }
     ensures fault { IfErr result (IsPlayFault ComeOf (read_from S.left S.faults source.old source.new)) }
+    ensures still { IfErr result (λ fault. sink.new ≡ sink.old) }
 {
     let script = read_source(alloc, source)?;
     let Ok(played) = play_soundly(alloc, &script) else {
         return Err(CommandFault::OutOfMemory);
     };
-    due_of_played(alloc, script, played)
+    write_played(alloc, sink, script, played)
 }
 
-/// Reads the source and tells what is due of its script, played by threads.
-fn due_by_threads<R: Threads + Wait + Sync, G: Pass + Sync, S: Source>(
+/// Reads the source and plays its script by threads, and writes the report.
+fn run_source<R: Threads + Wait + Sync, G: Pass + Sync, S: Source, K: Sink>(
     rt: &R,
     alloc: Global,
     pass: &G,
     source: &mut S,
-) -> Result<Vec<u8>, CommandFault>
-    ensures text { IfOk result (λ text. GivesReport AreSound (read_from S.left S.faults source.old source.new) Status.Ok text.items) }
+    sink: &mut K,
+) -> Result<Status, CommandFault>
+    ensures text { IfOk result (λ s. Writes (GivesReport AreSound (read_from S.left S.faults source.old source.new)) s (written_to K.taken K.faults K.kept_back sink.old sink.new)) }
     ensures fault { IfErr result (IsPlayFault AreSound (read_from S.left S.faults source.old source.new)) }
+    ensures still { IfErr result (λ fault. sink.new ≡ sink.old) }
 {
     let script = read_source(alloc, source)?;
     let Ok(played) = run_soundly(rt, alloc, &script, pass) else {
         return Err(CommandFault::OutOfMemory);
     };
-    due_of_played(alloc, script, played)
+    write_played(alloc, sink, script, played)
 }
 
 /// Plays the script that the source gives, all lines in order, and writes its report, or why there
@@ -124,8 +126,10 @@ fn due_by_threads<R: Threads + Wait + Sync, G: Pass + Sync, S: Source>(
 pub fn play_script<S: Source, K: Sink>(alloc: Global, source: &mut S, sink: &mut K) -> Status
     ensures { Plays ComeOf (read_from S.left S.faults source.old source.new) (written_to K.taken K.faults K.kept_back sink.old sink.new) result }
 {
-    let due = due_in_order(alloc, source);
-    write_due(alloc, sink, &due)
+    match play_source(alloc, source, sink) {
+        Ok(status) => status,
+        Err(fault) => write_fault(alloc, sink, &fault),
+    }
 }
 
 /// Plays the script that the source gives, by a thread for each actor and one for the operator, and
@@ -139,6 +143,8 @@ pub fn run_script<R: Threads + Wait + Sync, G: Pass + Sync, S: Source, K: Sink>(
 ) -> Status
     ensures { Plays AreSound (read_from S.left S.faults source.old source.new) (written_to K.taken K.faults K.kept_back sink.old sink.new) result }
 {
-    let due = due_by_threads(rt, alloc, pass, source);
-    write_due(alloc, sink, &due)
+    match run_source(rt, alloc, pass, source, sink) {
+        Ok(status) => status,
+        Err(fault) => write_fault(alloc, sink, &fault),
+    }
 }

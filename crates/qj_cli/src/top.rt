@@ -160,8 +160,9 @@ pub fn qjm_alone<S: Source, K: Sink, D: Disk>(
 ///   stand for the state after some of the lines, stopped inside the next one, and no fewer than
 ///   were answered by then.
 ///
-/// A report, what a mirror holds, what a standby comes to, a summary, a listing, a segment and
-/// findings are computed before any of it is written. `Usage`: other words, with the place, from 0,
+/// What a mirror holds, a summary, a listing, a segment and findings are computed before any of it
+/// is written. A report, and what a standby comes to, is counted before, and then written as it is
+/// printed, which takes no memory. `Usage`: other words, with the place, from 0,
 /// of the first word that is missing or wrong; neither the source nor the disk is called then.
 /// `Limit`: the source has more than 1,048,576 bytes, a report, made or judged, or what a standby
 /// comes to has more than 268,435,456, the file has more than 134,217,728, or the listing more than

@@ -74,7 +74,7 @@ fn read_printed(alloc: Global, bytes: &[u8]) -> Result<Lists, Unread>
     ensures { IfOk result (λ lists. IsReportOf bytes.now lists) }
 {
     let lists = read_lists(alloc, bytes)?;
-    match parting(alloc, &lists.mesh, &lists.ends, bytes)? {
+    match parting(&lists.mesh, &lists.ends, bytes) {
         Some(place) => Err(Unread::Bad {
             left: bytes.len().saturating_sub(place),
             rule: Rule::Spelling,

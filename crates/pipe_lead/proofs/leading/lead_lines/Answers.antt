@@ -8,7 +8,7 @@ use Rattle.pipe_lead.proofs.leading.lead_lines.Goals as goal
 pub returns-in-Some-clause-led : goal.returns-in-Some-clause-led
 returns-in-Some-clause-led g c =
     let is : end_of c.next_line.result ≡ Some c.in-Some.end = cc (c.in-Some.ensures, c.in-Some.is, c.end_at.ensures) in
-    lines_end c.next_line.result c.in-Some.end c.next_line.new.self.line (g.A.Actor.seen c.loop.by) c.args.seats.now c.loop.seats c.loop.reader c.next_line.new.self
+    lines_end c.next_line.result c.in-Some.end c.next_line.new.self.line (g.A.Actor.seen c.args.by.now) (g.A.Actor.seen c.loop.by) c.args.seats.now c.loop.seats c.loop.reader c.next_line.new.self
     (g.I.Source.left c.args.source.now) (g.I.Source.left c.loop.source) (g.I.Source.left c.next_line.new.source) (g.P.Sink.taken c.args.sink.now) (g.P.Sink.taken c.loop.sink)
     c.loop.counter c.loop.invariant.so_far c.loop.invariant.anew c.next_line.ensures.next is
 
@@ -20,14 +20,14 @@ pub returns-in-Some-answer_in_time-clause-led : goal.returns-in-Some-answer_in_t
 returns-in-Some-answer_in_time-clause-led g c =
     let came : end_of c.next_line.result ≡ None = cc (c.in_default-end_at.ensures, c.in_default-end_at.is, c.end_at.ensures) in
     let line : c.line.result.now ≡ c.next_line.new.self.line = cc (c.line.ensures.bytes, c.count_anew.ensures.line) in
-    lines_cut c.next_line.result c.in-Some-answer_in_time.end c.line.result.now (g.A.Actor.seen c.loop.by) (g.A.Actor.seen c.answer_in_time.new.by) c.args.seats.now c.loop.seats
+    lines_cut c.next_line.result c.in-Some-answer_in_time.end c.line.result.now (g.A.Actor.seen c.args.by.now) (g.A.Actor.seen c.loop.by) (g.A.Actor.seen c.answer_in_time.new.by) c.args.seats.now c.loop.seats
     c.answer_in_time.new.seats c.loop.reader c.next_line.new.self (g.I.Source.left c.args.source.now) (g.I.Source.left c.loop.source) (g.I.Source.left c.next_line.new.source)
     (g.P.Sink.taken c.args.sink.now) (g.P.Sink.taken c.loop.sink) (g.P.Sink.taken c.answer_in_time.new.sink) c.loop.counter c.loop.invariant.so_far c.next_line.ensures.next came line
     c.in-Some-answer_in_time.ensures.answered
 
 pub returns-in-Some-answer_in_time-clause-later : goal.returns-in-Some-answer_in_time-clause-later
 returns-in-Some-answer_in_time-clause-later g c =
-    lines_cut_later c.in-Some-answer_in_time.end c.line.result.now (g.A.Actor.seen c.loop.by) (g.A.Actor.seen c.answer_in_time.new.by) c.args.seats.now c.loop.seats
+    lines_cut_later c.in-Some-answer_in_time.end c.line.result.now (g.A.Actor.seen c.args.by.now) (g.A.Actor.seen c.loop.by) (g.A.Actor.seen c.answer_in_time.new.by) c.args.seats.now c.loop.seats
     c.answer_in_time.new.seats _ _ _ (g.P.Sink.taken c.loop.sink) (g.P.Sink.taken c.answer_in_time.new.sink) c.loop.counter c.loop.invariant.so_far
     c.in-Some-answer_in_time.ensures.answered
 
@@ -48,7 +48,7 @@ loop-preserved g c =
     let came : end_of c.next_line.result ≡ None = cc (c.in_default-end_at.ensures, c.in_default-end_at.is, c.end_at.ensures) in
     let line : c.line.result.now ≡ c.next_line.new.self.line = cc (c.line.ensures.bytes, c.count_anew.ensures.line) in
     record {
-      so_far = lines_next c.next_line.result c.line.result.now (g.A.Actor.seen c.loop.by) (g.A.Actor.seen c.answer_in_time.new.by) c.args.seats.now c.loop.seats
+      so_far = lines_next c.next_line.result c.line.result.now (g.A.Actor.seen c.args.by.now) (g.A.Actor.seen c.loop.by) (g.A.Actor.seen c.answer_in_time.new.by) c.args.seats.now c.loop.seats
           c.answer_in_time.new.seats c.loop.reader c.next_line.new.self c.count_anew.new.self (g.I.Source.left c.args.source.now) (g.I.Source.left c.loop.source)
           (g.I.Source.left c.next_line.new.source) (g.P.Sink.taken c.args.sink.now) (g.P.Sink.taken c.loop.sink) (g.P.Sink.taken c.answer_in_time.new.sink) c.loop.counter
           c.loop.invariant.so_far c.next_line.ensures.next came c.count_anew.ensures.held line c.in_default-answer_in_time.ensures.answered;
@@ -61,7 +61,7 @@ loop-preserved g c =
 -- no more lines can be counted
 pub returns-clause-led : goal.returns-clause-led
 returns-clause-led g c =
-    lines_out (g.A.Actor.seen c.loop.by) c.args.seats.now c.loop.seats c.loop.reader (g.I.Source.left c.args.source.now) (g.I.Source.left c.loop.source)
+    lines_out (g.A.Actor.seen c.args.by.now) (g.A.Actor.seen c.loop.by) c.args.seats.now c.loop.seats c.loop.reader (g.I.Source.left c.args.source.now) (g.I.Source.left c.loop.source)
     (g.P.Sink.taken c.args.sink.now) (g.P.Sink.taken c.loop.sink) c.loop.counter c.loop.invariant.so_far (omega (arith, c.loop-test.false))
 
 pub returns-clause-resting : goal.returns-clause-resting

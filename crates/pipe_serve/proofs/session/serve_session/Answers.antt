@@ -1,4 +1,4 @@
-use Rattle.std.proofs.Common.{List, ℕ, ◌∙◌, subst, None, Some, arith}
+use Rattle.std.proofs.Common.{◌∙◌, subst, None, Some, arith}
 use Rattle.std.proofs.KnownBytes.{Appends-nil}
 use Rattle.pipe_serve.specs.Sessions.{IsServed, read_from, written_to}
 use Rattle.pipe_serve.proofs.SessionLaws.{begun, one_more, session_ends, session_stops, session_none, session_counted}

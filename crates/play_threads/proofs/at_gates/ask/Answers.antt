@@ -11,7 +11,7 @@ returns-clause-ok g c =
     let e = c.act.ensures.own.1 in
     if_ok c.act.result
     (λ a h. ap (λ k. own_lines k n.seat.me.0.seen) e
-    ∙ acted m.caller (c.args.ask.now, a) m.seat.me.0.seen n.seat.me.0.seen m.places.items n.places.items m.at_rest.4 (ap (λ k. places_of k n.seat.me.0.seen) (sym e) ∙ n.at_rest.4) h)
+    ∙ acted m.caller (c.args.ask.now, a) m.seat.me.0.seen n.seat.me.0.seen m.seat.me.0.places n.seat.me.0.places m.at_rest.3 (ap (λ k. places_of k n.seat.me.0.seen) (sym e) ∙ n.at_rest.3) h)
     c.act.ensures.ok
 
 pub returns-clause-err : goal.returns-clause-err
@@ -21,7 +21,7 @@ returns-clause-err g c =
     let e = c.act.ensures.own.1 in
     on_err c.act.result
     (λ h. ap (λ k. own_lines k n.seat.me.0.seen) e
-    ∙ not_acted m.caller m.seat.me.0.seen n.seat.me.0.seen m.places.items n.places.items m.at_rest.4 (ap (λ k. places_of k n.seat.me.0.seen) (sym e) ∙ n.at_rest.4) h.0 h.1)
+    ∙ not_acted m.caller m.seat.me.0.seen n.seat.me.0.seen m.seat.me.0.places n.seat.me.0.places m.at_rest.3 (ap (λ k. places_of k n.seat.me.0.seen) (sym e) ∙ n.at_rest.3) h.0 h.1)
     c.act.ensures.err
 
 pub returns-clause-fits : goal.returns-clause-fits

@@ -1,4 +1,3 @@
-use Rattle.pipe_serve.specs.Sessions.{read_from, written_to}
 use Rattle.pipe_serve.specs.declared.served.ServeEnd.TheVariants.{DiskFault}
 use Rattle.pipe_serve.proofs.SharedLaws.{never_told}
 use Rattle.pipe_serve.proofs.shared.Shared.serve.Goals as goal

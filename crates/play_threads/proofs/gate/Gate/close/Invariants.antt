@@ -1,4 +1,4 @@
-use Rattle.std.proofs.Common.{◌≡◌, ◌≤◌, [], map, vec_capacity}
+use Rattle.std.proofs.Common.{◌≡◌, [], map}
 use Rattle.play_threads.specs.Board.{keeper as keeper_of}
 use Rattle.play_threads.proofs.gate.Gate.close.Given as goal
 
@@ -7,6 +7,4 @@ invariant-loop-seat g l =
     (goal.iterator-loop-seat g).can_next l.seat-iterator
     × (goal.iterator-loop-seat g).is_finite l.seat-iterator
     × (l.keeper.table_id ≡ l.initial.keeper.table_id)
-    × (l.keeper.me ≡ (keeper_of l.made (map (λ s. (s.seat.me.0.seen, s.places.items)) l.yielded), []))
-    × (l.lists.items ≡ map (λ s. s.places) l.yielded)
-    × (l.made ≤ vec_capacity l.lists)
+    × (l.keeper.me ≡ (keeper_of l.made (map (λ s. (s.seat.me.0.seen, s.seat.me.0.places)) l.yielded), []))

@@ -7,8 +7,8 @@ use Rattle.play_threads.proofs.gate.Gate.new.Goals as goal
 
 pub new-requires : goal.new-requires
 new-requires g c =
-    let e = c.push_reserved.ensures.items ∙ ap (λ l. l ++ c.args.cell ∷ []) c.in-Ok-with_capacity-2.ensures.items in
-    subst (λ (l : List g.row.C.Denot). Kept g.C.GateCell.history (opening (0 ∷ 0 ∷ 0 ∷ []) l (keeper 0 []))) (sym e) (opens g.C.GateCell.history c.args.cell c.requires.empty)
+    let e = c.push_reserved.ensures.items ∙ ap (λ l. l ++ c.args.cell ∷ []) c.in-Ok-with_capacity.ensures.items in
+    subst (λ (l : List g.row.C.Denot). Kept g.C.GateCell.led (opening (0 ∷ 0 ∷ 0 ∷ []) l (keeper 0 []))) (sym e) (opens g.C.GateCell.led c.args.cell c.requires.empty)
 
 pub loop-k-preserved : goal.loop-k-preserved
 loop-k-preserved g c =

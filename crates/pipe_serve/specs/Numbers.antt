@@ -1,0 +1,105 @@
+-- The numbers of a life's calls to a node, as its pipe saw them, and what a node got of them.
+use Rattle.std.specs.Prelude.{ℕ, ◌≡◌, ◌⊎◌, List, [], ◌∷◌, Option}
+use Rattle.std.specs.List.{AllByRecursion}
+use Rattle.journal_core.specs.declared.request.Request.{Request}
+use Rattle.journal_core.specs.declared.reply.Reply.{Reply}
+use Rattle.journal_history.specs.declared.record.Record.{Record}
+use Rattle.journal_history.specs.declared.record.Record.TheVariants.{Call, Late, Operator, Outcome}
+use Rattle.journal_history.specs.declared.record.Told.{Told}
+use Rattle.journal_history.specs.declared.record.Told.TheVariants as told
+use Rattle.journal_history.specs.declared.node_ask.NodeAnswer.TheVariants.{Replied}
+use Rattle.journal_text.specs.Lines.{IsRequest}
+use Rattle.journal_text.specs.Reading.{reading_of}
+use Rattle.journal_text.specs.Texts.{request_text}
+use Rattle.journal_text.specs.declared.request_line.ReadRequest.TheVariants.{Read}
+use Rattle.pipe_seats.specs.Calls.{PipeView, unopened, IsReplyRead}
+use Rattle.pipe_seats.specs.Piped.{Goes}
+use Rattle.pipe_seats.specs.Tags.{Asked, GotAs, AreWritten, WasHeard, KeepOrder}
+use Rattle.pipe_serve.specs.Sessions.{Answered}
+
+-- ## What a name node wrote and read
+-- no late copy and no operation
+abbrev pub IsMade : Record → Type 0
+IsMade (Call m r t) = Unit {0}
+IsMade (Late m r) = ⊥
+IsMade (Operator m ask done) = ⊥
+IsMade (Outcome text) = Unit {0}
+
+-- the line of this reply was read, with this number, behind lines that answer other calls
+pub record IsReadOn (life n : ℕ) (r : Request) (reply : Reply) : Type 0 where
+  pub before : Option (List ℕ)
+  pub after : Option (List ℕ)
+  pub read : IsReplyRead life n r reply before after
+
+-- what was heard of a call was read so
+abbrev pub IsReadAs : ℕ → ℕ → Request → Told → Type 0
+IsReadAs life n r (told.Reply reply) = IsReadOn life n r reply
+IsReadAs life n r told.Dropped = Unit {0}
+IsReadAs life n r told.Muted = Unit {0}
+IsReadAs life n r told.Silent = Unit {0}
+
+abbrev pub WasRead : ℕ → Asked → Type 0
+WasRead life a = IsReadAs life a.number a.request a.told
+
+-- these are the calls of a life whose lines were begun, by their numbers
+pub record AreNumbered (node life n : ℕ) (rs : List Record) (asked : List Asked) : Type 0 where
+  pub written : AreWritten node n rs asked
+  pub read : AllByRecursion (WasRead life) asked
+
+-- so they have in each life over a pipe, from 1 on
+abbrev pub CallsAreNumbered : Type 0
+CallsAreNumbered =
+    (node life : ℕ) (rs : List Record) (pipe : PipeView) → AllByRecursion IsMade rs → Goes node rs (unopened life) pipe
+    → (asked : List Asked) × AreNumbered node life 0 rs asked
+
+-- ## What a node got
+-- these are some of the calls that were written, in their order
+abbrev pub AreSome : List GotAs → List Asked → Type 0
+AreSome [] asked = Unit {0}
+AreSome (g ∷ gots) [] = ⊥
+AreSome (g ∷ gots) (a ∷ asked) = ((a.number ≡ g.number) × (a.request ≡ g.got.request) × AreSome gots asked) ⊎ AreSome (g ∷ gots) asked
+
+-- then their numbers rise, and each was written under its own
+abbrev pub LinesKeepOrder : Type 0
+LinesKeepOrder =
+    (node life : ℕ) (rs : List Record) (asked : List Asked) (gots : List GotAs) → AreNumbered node life 0 rs asked → AreSome gots asked
+    → AllByRecursion (WasHeard gots) asked → KeepOrder node rs gots
+
+-- ## What a node's sessions took
+-- a session's call, as the node got it: its number, its text's request, and the reply
+pub record IsTakenAs (a : Answered) (g : GotAs) : Type 0 where
+  pub number : g.number ≡ a.call
+  pub reads : reading_of a.text ≡ Read g.got.request
+  pub answer : g.got.answer ≡ Replied a.reply
+
+-- the first of these is that call, and of the others this holds
+pub record TakesFirst (a : Answered) (gots : List GotAs) (Rest : List GotAs → Type 0) : Type 0 where
+  pub got : GotAs
+  pub more : List GotAs
+  pub are : gots ≡ got ∷ more
+  pub is : IsTakenAs a got
+  pub rest : Rest more
+
+-- of the calls of a client's sessions, one after the other, those of this life
+abbrev pub AreTaken : ℕ → List Answered → List GotAs → Type 0
+AreTaken life [] gots = gots ≡ []
+AreTaken life (a ∷ calls) gots = ((a.life ≡ life) × TakesFirst a gots (AreTaken life calls)) ⊎ ((a.life ≡ life → ⊥) × AreTaken life calls gots)
+
+-- the call's line is one of those that were begun, and of those behind it this holds
+abbrev pub IsBegunIn : Answered → List Asked → (List Asked → Type 0) → Type 0
+IsBegunIn a [] Rest = ⊥
+IsBegunIn a (b ∷ asked) Rest = ((b.number ≡ a.call) × (request_text b.request ≡ a.text) × Rest asked) ⊎ IsBegunIn a asked Rest
+
+-- the lines of this life that the sessions took are some of those that were begun, in their order
+abbrev pub AreBegun : ℕ → List Answered → List Asked → Type 0
+AreBegun life [] asked = Unit {0}
+AreBegun life (a ∷ calls) asked = ((a.life ≡ life) × IsBegunIn a asked (AreBegun life calls)) ⊎ ((a.life ≡ life → ⊥) × AreBegun life calls asked)
+
+abbrev pub IsRequestOf : Asked → Type 0
+IsRequestOf b = IsRequest b.request
+
+-- then what the node got of the life by them are some of its calls, in their order
+abbrev pub SessionsKeepOrder : Type 0
+SessionsKeepOrder =
+    (node life : ℕ) (rs : List Record) (asked : List Asked) (calls : List Answered) (gots : List GotAs) → AreNumbered node life 0 rs asked → AllByRecursion IsRequestOf asked
+    → AreTaken life calls gots → AreBegun life calls asked → AllByRecursion (WasHeard gots) asked → KeepOrder node rs gots

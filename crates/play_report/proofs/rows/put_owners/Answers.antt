@@ -1,0 +1,15 @@
+use Rattle.std.proofs.Common.{rules}
+use Rattle.play_report.proofs.TakerLaws.{same_as}
+use Rattle.play_report.proofs.rows.put_owners.Goals as goal
+
+pub returns : goal.returns
+returns g c =
+    let more = g.met.T.Taker.adds_more in
+    same_as g.T.Taker.adds more _ _ _ _
+    (more _ _ _ _ _ c.put_size.ensures
+    (more _ _ _ _ _ c.put_quota.ensures
+    (more _ _ _ _ _ c.put_quota-2.ensures
+    (more _ _ _ _ _ c.put_word.ensures
+    (more _ _ _ _ _ c.put_word-2.ensures
+    (more _ _ _ _ _ c.put_word-3.ensures (g.met.T.Taker.adds_none _)))))))
+    (search rules)

@@ -1,0 +1,19 @@
+use Rattle.std.proofs.Common.{refl}
+use Rattle.std.proofs.lemmas.Result.{IfErr-weaker}
+use Rattle.cli_commands.specs.Uses.{written_to}
+use Rattle.qj_cli.specs.Sound.{ComeOf}
+use Rattle.qj_cli.proofs.PlayLaws.{gives_report, report_fault}
+use Rattle.qj_cli.proofs.WriteLaws.{writes}
+use Rattle.qj_cli.proofs.playing.play_source.Goals as goal
+
+pub returns-clause-text : goal.returns-clause-text
+returns-clause-text g c =
+    writes c.write_played.result _ _ _ (written_to g.K.Sink.taken g.K.Sink.faults g.K.Sink.kept_back c.args.sink.now c.write_played.new.sink)
+    (λ within. gives_report ComeOf _ c.in_ok-script.script c.in-Ok.played.mesh c.in-Ok.played.ends _ c.in_ok-script.ensures.script c.in-Ok.ensures.comes refl within)
+    c.write_played.ensures.text c.write_played.ensures.within
+
+pub returns-clause-fault : goal.returns-clause-fault
+returns-clause-fault g c =
+    IfErr-weaker c.write_played.result _ _
+    (λ of is. report_fault ComeOf _ c.in_ok-script.script c.in-Ok.played.mesh c.in-Ok.played.ends of c.in_ok-script.ensures.script c.in-Ok.ensures.comes is)
+    c.write_played.ensures.fault
