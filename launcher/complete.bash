@@ -6,8 +6,8 @@
 # The words that may stand at the cursor, behind those before it.
 _qjm_words() {
   case $COMP_CWORD,${COMP_WORDS[1]-} in
-    1,*) echo 'play run mirror boot gen node serve lead cluster fsck judge oev oiv draw rules test help --build --version --help' ;;
-    2,help) echo 'play run mirror boot gen node serve lead cluster fsck judge oev oiv draw rules test --build' ;;
+    1,*) echo 'play run piped mirror boot gen node serve lead cluster fsck judge oev oiv draw rules test help --build --version --help' ;;
+    2,help) echo 'play run piped mirror boot gen node serve lead cluster fsck judge oev oiv draw rules test --build' ;;
     2,oev) echo 'list stats json back' ;;
     2,oiv) echo 'delimited sizes json' ;;
     2,node) echo '--unchecked' ;;
@@ -20,7 +20,7 @@ _qjm() {
   local word=${COMP_WORDS[COMP_CWORD]} pattern=
   mapfile -t COMPREPLY < <(compgen -W "$(_qjm_words)" -- "$word")
   case $COMP_CWORD,${COMP_WORDS[1]-} in
-    2,play | 2,run | 2,mirror | 2,boot) pattern='*.qjm' ;;
+    2,play | 2,run | 2,piped | 2,mirror | 2,boot) pattern='*.qjm' ;;
     3,oev) [ "${COMP_WORDS[2]}" = back ] && pattern='*' || pattern='edits_*' ;;
     3,oiv) pattern='fsimage_*' ;;
   esac

@@ -10,7 +10,7 @@ again='' output=''
 # Opens what the program is to read as descriptor 3. A script that stands in no file is kept in one first.
 open_input() {
   case $1 in
-    play | run | mirror | boot | node) exec 3<&0 ;;
+    play | run | piped | mirror | boot | node) exec 3<&0 ;;
     play | run | mirror | node | judge) exec 3<&0 ;;
     *) exec 3</dev/null; return ;;
   esac
@@ -115,7 +115,7 @@ refuse_unbuilt() {
 # Runs the program's command, explains a status that isn't 0, and ends with the status.
 run_or_try() {
   case $1 in
-    play | run | mirror | boot) greet_terminal 'a script' ;;
+    play | run | piped | mirror | boot) greet_terminal 'a script' ;;
     judge) greet_terminal 'a report' ;;
   esac
   open_input "${1-}"

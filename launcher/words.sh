@@ -1,7 +1,7 @@
 # The words after ./qjm: which of them are a command's, and the help of each.
 
 # The program's commands, and those that the launcher answers itself.
-readonly PROGRAM_COMMANDS='play run mirror boot gen node serve lead oev oiv fsck judge' OWN_COMMANDS='draw cluster rules test help'
+readonly PROGRAM_COMMANDS='play run piped mirror boot gen node serve lead oev oiv fsck judge' OWN_COMMANDS='draw cluster rules test help'
 readonly SEGMENT_LISTINGS='list stats json' IMAGE_LISTINGS='delimited sizes json'
 
 # The greatest number that a word may be.
@@ -69,7 +69,7 @@ place_in_counted() {
 # where the words are a command. The program's own rule is the same, and waits for no quick run here.
 wrong_place() {
   case ${1-},${2-} in
-    play,* | run,* | mirror,* | boot,* | node,* | fsck,* | judge,*) [ $# -eq 1 ] || echo 1 ;;
+    play,* | run,* | piped,* | mirror,* | boot,* | node,* | fsck,* | judge,*) [ $# -eq 1 ] || echo 1 ;;
     oev,back) place_in_back "$@" ;;
     oev,*) place_in_listing "$SEGMENT_LISTINGS" "$@" ;;
     oiv,*) place_in_listing "$IMAGE_LISTINGS" "$@" ;;
@@ -134,7 +134,7 @@ show_way() {
 
 # Whether a command reads a script.
 reads_script() {
-  is_among "$1" 'play run mirror boot'
+  is_among "$1" 'play run piped mirror boot'
 }
 
 # Shows the text of a command, or the whole one.

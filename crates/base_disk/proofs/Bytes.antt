@@ -1,7 +1,7 @@
 -- Bytes over others: what stands in front, after, and before the change.
-use Rattle.std.proofs.Common.{◌≡◌, ℕ, ◌+◌, ◌-◌, ◌≤◌, ◌⊎◌, ⊎_elim, List, [], ◌++◌, refl, ap, sym, ◌∙◌, arith, take, drop, length, length-append, length-take, length-drop, length-take-le, append_assoc}
+use Rattle.std.proofs.Common.{◌≡◌, ℕ, ◌+◌, ◌-◌, ◌≤◌, ◌⊎◌, ⊎_elim, List, [], ◌++◌, refl, ap, sym, ◌∙◌, arith, take, drop, length, length-append, length-take, length-drop, length-take-le}
 use Rattle.std.specs.Prelude.{min, max, Option, Some, None}
-use Rattle.std.proofs.lemmas.List.{append-nil, take_all, drop_all, take_at, drop_at, take-append-le, drop-append-le, take-append-drop, take-take, drop-take, take_min}
+use Rattle.std.proofs.lemmas.List.{append-nil, take_all, drop_all, take_at, drop_at, take-append-le, take-append-drop, take-take, drop-take, take_min}
 use Rattle.std.proofs.Math.Seq.{take-add, take-append-add}
 use Rattle.base_disk.specs.Files.{IsTorn, Torn, IsCut, bytes_of}
 use Rattle.base_disk.specs.FileView.{overwritten}

@@ -10,4 +10,5 @@ pub mod Causes
 mod Timeline
 mod Names
 mod Choices
+mod LastFiles
 pub mod Keeping

@@ -1,7 +1,9 @@
 -- A map of files after one key was changed.
 use Rattle.std.proofs.Common.{◌≡◌, ◌≢◌, ◌∙◌, ◌⊎◌, ⊎_elim, inl, inr, ℕ, List, ap, sym, subst, Bool, true, false, refl}
 use Rattle.std.specs.Prelude.{Option, Result, Ok, Err, OnErr, string_bytes, bytes_eq, if◌then◌else◌}
-use Rattle.std.specs.BTreeMap.{UpdatesBy}
+use Rattle.std.specs.BTreeMap.{BTreeMap, UpdatesBy}
+use Rattle.std.specs.declared.string.String.{String}
+use Rattle.std.specs.declared.alloc.Global.{Global}
 use Rattle.std.specs.Cmp.Lexicographic.{slice_cmp}
 use Rattle.std.specs.Ordering.{nat_cmp}
 use Rattle.std.specs.String.{string_cmp}
@@ -20,10 +22,11 @@ other_names a b ne = by (bytes_eq a b) refl
     by true is = absurd (ne ((bytes_eq-Decides a b).0 is))
     by false is = refl
 
-pub sets_file : (name : List ℕ) (m n : Map) (w : Option FileView) → UpdatesBy string_cmp (λ k. slice_cmp nat_cmp name (string_bytes k)) m n w → SetsFile name w m n
+pub sets_file : (name : List ℕ) (m n : BTreeMap (String Global) FileView) (w : Option FileView) → UpdatesBy string_cmp (λ k. slice_cmp nat_cmp name (string_bytes k)) m n w
+    → SetsFile name w m.entries n.entries
 sets_file name m n w updates = record {
-  here = btree_map_updates_text name m n w updates name ∙ ap (λ (t : Bool). if t then w else file_in m name) (equal_names name name refl);
-  others = λ q ne. btree_map_updates_text name m n w updates q ∙ ap (λ (t : Bool). if t then w else file_in m q) (other_names name q (λ same. ne (sym same)));
+  here = btree_map_updates_text name m n w updates name ∙ ap (λ (t : Bool). if t then w else file_in m.entries name) (equal_names name name refl);
+  others = λ q ne. btree_map_updates_text name m n w updates q ∙ ap (λ (t : Bool). if t then w else file_in m.entries q) (other_names name q (λ same. ne (sym same)));
 }
 
 pub sets_to : (name : List ℕ) (v w : Option FileView) (m n : Map) → SetsFile name v m n → v ≡ w → SetsFile name w m n

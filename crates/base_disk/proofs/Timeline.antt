@@ -5,7 +5,7 @@ use Rattle.std.specs.declared.snapshot.Snapshot.{Snapshot}
 use Rattle.std.proofs.lemmas.List.{append-nil, take_all, drop_all}
 use Rattle.std.proofs.lemmas.Result.{IfOk-from_err}
 use Rattle.base_disk.specs.Files.{Files, ChangesOnly, Moves, Holds, Torn, Cut, IsShortened, IsGone, Follows, bytes_of}
-use Rattle.base_disk.specs.View.{View, IsStable, Elapses}
+use Rattle.base_disk.specs.View.{View, Elapses}
 use Rattle.base_disk.specs.Calls.{Writes, Cuts, Syncs, Keeps, Rests, Atomic, Happens}
 use Rattle.base_disk.specs.declared.disk.DiskFail.{DiskFail}
 use Rattle.base_disk.specs.FileView.{FileView, at_rest, shortened}

@@ -1,17 +1,25 @@
 -- The files of a disk in memory, by their names.
-use Rattle.std.specs.Prelude.{◌≡◌, ◌≢◌, ℕ, List, Option, Some, None, string_bytes, map}
-use Rattle.std.specs.BTreeMap.{BTreeMap, get_by_text, keys}
+use Rattle.std.specs.Prelude.{◌≡◌, ◌≢◌, ℕ, List, Bool, Option, Some, None, string_bytes, map}
+use Rattle.std.specs.Map.{lookup, keys_of}
+use Rattle.std.specs.BTreeMap.{is_at}
+use Rattle.std.specs.Cmp.Lexicographic.{slice_cmp}
+use Rattle.std.specs.Ordering.{nat_cmp}
 use Rattle.std.specs.declared.string.String.{String}
 use Rattle.std.specs.declared.alloc.Global.{Global}
 use Rattle.base_disk.specs.Files.{bytes_of}
 use Rattle.base_disk.specs.FileView.{FileView, created, written, crashed, at_rest, IsImage}
 use Rattle.base_disk.specs.declared.disk.Choice.{Choice}
 
+-- names with their files
 abbrev pub Map : Type 0
-Map = BTreeMap (String Global) FileView
+Map = List (String Global × FileView)
+
+-- whether a key has this name
+abbrev pub is_named : List ℕ → String Global → Bool
+is_named name = is_at (λ k. slice_cmp nat_cmp name (string_bytes k))
 
 abbrev pub file_in : Map → List ℕ → Option FileView
-file_in m name = get_by_text m name
+file_in m name = lookup (is_named name) m
 
 abbrev pub now_of : Option FileView → Option (List ℕ)
 now_of None = None
@@ -26,7 +34,7 @@ bytes_in m name = bytes_of (now_of (file_in m name))
 
 -- the names, in byte order
 abbrev pub names_in : Map → List (List ℕ)
-names_in m = map string_bytes (keys m)
+names_in m = map string_bytes (keys_of m)
 
 -- what a crash may leave of a file
 abbrev pub MayBe : Option FileView → Option (List ℕ) → Type 0

@@ -7,6 +7,7 @@ pub mod FileView
 pub mod Change
 pub mod MemFile
 pub mod FileMap
+pub mod LastFile
 pub mod CallPlan
 pub mod ImageLaws
 pub mod Timeline

@@ -6,6 +6,7 @@ mod call_plan;
 mod change;
 mod disk;
 mod file_map;
+mod held_files;
 mod lent_disk;
 mod mem_disk;
 mod mem_file;

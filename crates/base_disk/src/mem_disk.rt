@@ -5,8 +5,8 @@ ghost use Rattle.base_disk.specs.Timeline.{Remembers};
 
 use crate::call_plan::CallPlan;
 use crate::disk::{Choice, Disk, DiskFail, DiskModel};
-use crate::file_map;
-use crate::file_map::FileMap;
+use crate::held_files;
+use crate::held_files::HeldFiles;
 use std::alloc::Global;
 use std::snapshot::Snapshot;
 
@@ -17,8 +17,8 @@ use std::snapshot::Snapshot;
 /// change.
 pub struct MemDisk {
     alloc: Global,
-    files: FileMap,
-    past: Vec<Snapshot<FileMap>>,
+    files: HeldFiles,
+    past: Vec<Snapshot<HeldFiles>>,
     plan: CallPlan,
     shortages: u64,
     reads: u64,
@@ -53,8 +53,8 @@ fn tell_short(shortages: &mut u64) -> DiskFail
 
 // Keeps what the files are, for proofs.
 fn remember(
-    past: &mut Vec<Snapshot<FileMap>>,
-    files: &FileMap,
+    past: &mut Vec<Snapshot<HeldFiles>>,
+    files: &HeldFiles,
     shortages: &mut u64,
 ) -> Result<(), DiskFail>
     ensures ok { OnOk result (Remembers files.now past.old.items past.new.items) }
@@ -102,7 +102,7 @@ impl MemDisk {
     {
         MemDisk {
             alloc,
-            files: FileMap::new(alloc),
+            files: HeldFiles::new(alloc),
             past: Vec::new(alloc),
             plan: CallPlan {
                 made: 0,
@@ -153,7 +153,7 @@ impl MemDisk {
         ensures steady { CannotFail self.new }
         ensures counts { (faults_of self.new ≡ faults_of self.old) × (reads_of self.new ≡ reads_of self.old) }
     {
-        file_map::crash(&mut self.files, choice);
+        held_files::crash(&mut self.files, choice);
         self.past.clear();
         self.plan.failing.clear();
         self.plan.left = None;
@@ -212,7 +212,7 @@ impl Disk for MemDisk {
 
     fn list(&mut self) -> Result<Vec<String>, DiskFail> {
         self.plan.admit()?;
-        match file_map::names(self.alloc, &self.files) {
+        match held_files::names(self.alloc, &self.files) {
             Ok(names) => Ok(names),
             Err(_) => Err(tell_short(&mut self.shortages)),
         }
@@ -221,7 +221,7 @@ impl Disk for MemDisk {
     fn write_at(&mut self, name: &str, at: u64, bytes: &[u8]) -> Result<(), DiskFail> {
         self.plan.admit()?;
         remember(&mut self.past, &self.files, &mut self.shortages)?;
-        match file_map::write(self.alloc, &mut self.files, name, at as usize, bytes) {
+        match held_files::write(self.alloc, &mut self.files, name, at as usize, bytes) {
             Ok(()) => Ok(()),
             Err(_) => Err(tell_short(&mut self.shortages)),
         }
@@ -230,7 +230,7 @@ impl Disk for MemDisk {
     fn cut(&mut self, name: &str, to: u64) -> Result<(), DiskFail> {
         self.plan.admit()?;
         remember(&mut self.past, &self.files, &mut self.shortages)?;
-        match file_map::cut(&mut self.files, name, to as usize) {
+        match held_files::cut(&mut self.files, name, to as usize) {
             Ok(()) => Ok(()),
             Err(_) => Err(tell_short(&mut self.shortages)),
         }
@@ -239,14 +239,14 @@ impl Disk for MemDisk {
     fn sync(&mut self, name: &str) -> Result<(), DiskFail> {
         self.plan.admit()?;
         remember(&mut self.past, &self.files, &mut self.shortages)?;
-        file_map::sync(&mut self.files, name);
+        held_files::sync(&mut self.files, name);
         Ok(())
     }
 
     fn rename(&mut self, from: &str, to: &str) -> Result<(), DiskFail> {
         self.plan.admit()?;
         remember(&mut self.past, &self.files, &mut self.shortages)?;
-        match file_map::rename(self.alloc, &mut self.files, from, to) {
+        match held_files::rename(self.alloc, &mut self.files, from, to) {
             Ok(()) => Ok(()),
             Err(_) => Err(tell_short(&mut self.shortages)),
         }
@@ -255,7 +255,7 @@ impl Disk for MemDisk {
     fn remove(&mut self, name: &str) -> Result<(), DiskFail> {
         self.plan.admit()?;
         remember(&mut self.past, &self.files, &mut self.shortages)?;
-        file_map::remove(&mut self.files, name);
+        held_files::remove(&mut self.files, name);
         Ok(())
     }
 }

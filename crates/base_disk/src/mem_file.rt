@@ -64,6 +64,18 @@ impl MemFile {
         })
     }
 
+    /// A file without a byte, stable. Takes no memory.
+    pub fn blank(alloc: Global) -> MemFile
+        ensures { result ≡ at_rest [] }
+    {
+        MemFile {
+            bytes: Vec::new(alloc),
+            end: 0,
+            changes: Vec::new(alloc),
+            is_new: false,
+        }
+    }
+
     /// What a read gives.
     pub fn bytes(&self) -> &[u8]
         ensures { result.now ≡ self.now.now }

@@ -52,8 +52,8 @@ pub fn put(out: &mut Vec<u8>, bytes: &[u8]) -> Result<(), OutOfMemory>
     Ok(())
 }
 
-/// A digit of base 16, in lower case.
-fn hex_digit(digit: u8) -> u8
+/// The digit of base 16, in lower case, of a number below 16.
+pub fn hex_digit(digit: u8) -> u8
     requires { digit < 16 }
     ensures { result ≡ hex_digit digit }
 {

@@ -17,7 +17,7 @@ mod words;
 pub use bytes::Bytes;
 pub use digits::{put_decimal, put_digits, read_digits, read_number};
 pub use fields::{get_u16, get_u32, get_u64, put_u16, put_u32, put_u64};
-pub use hex::{put, put_hex, read_hex};
+pub use hex::{hex_digit, put, put_hex, read_hex};
 pub use laws::{fields_are_got_back, numbers_are_read_back, padded_numbers_are_read_back};
 pub use limits::{MAX, OutOfMemory};
 pub use name::Name;

@@ -20,7 +20,7 @@ use Rattle.play_names.specs.Holding.{Free}
 use Rattle.play_model.specs.Actions.{ActorView}
 use Rattle.play_actor.specs.Kinds.{begun_actor, IsStandbyAt, IsNoStandby}
 use Rattle.pipe_lead.specs.Begun.{IsBegun}
-use Rattle.cli_cluster.specs.Images.{FolderView, Stays, IsAtImage, IsSecond, TellsSecond, StartsAt, StandsAtNewest, BeginsAs, HasFolder, SavesHere, SavesStandby, SavesIn, SavesFirst, TakesInFolder, failed_after}
+use Rattle.cli_cluster.specs.Images.{FolderView, Stays, IsAtImage, IsSecond, TellsSecond, StartsAt, StandsAtNewest, BeginsAs, HasFolder, SavesStandby, SavesIn, TakesInFolder, failed_after}
 
 -- ## Files that stay
 pub stays_same : {D : Type 0} (disk : Ghosts D) (d : D) → Stays disk d d

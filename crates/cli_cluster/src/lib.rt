@@ -14,4 +14,4 @@ pub use folder_actor::{FolderActor, save_standby};
 pub use image_start::begin_lead;
 pub use lead_command::lead_cluster;
 pub use life::count_start;
-pub use serve_command::serve_node_to;
+pub use serve_command::{ServeExit, serve_node_to};

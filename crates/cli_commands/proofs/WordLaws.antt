@@ -16,8 +16,8 @@ use Rattle.cli_commands.specs.declared.tool.ImageTool.{ImageTool}
 use Rattle.cli_commands.specs.declared.tool.ImageTool.TheVariants as image
 use Rattle.cli_commands.specs.declared.tool.Tool.{Tool}
 use Rattle.cli_commands.specs.declared.tool.Tool.TheVariants as tool
-use Rattle.cli_commands.specs.Commands.{Asked, play, run, mirror, boot, node, fsck, judge, gen, list, segment_word, image_word, words_of, AreOfSegment, IsAllowed, AskFor, IsCommand}
-use Rattle.cli_commands.specs.Usage.{is_alone, is_oev, is_oiv, after_one, after_tool, after_program, after_epoch, behind_start, behind_name, after_back, after_oev}
+use Rattle.cli_commands.specs.Commands.{Asked, play, run, piped, mirror, boot, node, fsck, judge, gen, list, segment_word, image_word, words_of, AreOfSegment, IsAllowed, AskFor, IsCommand}
+use Rattle.cli_commands.specs.Usage.{is_alone, is_oev, is_oiv, after_one, after_tool, after_program, after_epoch, behind_start, behind_name, after_back, after_oev, asks_piped}
 use Rattle.cli_commands.specs.Usage.{after_number, behind_edits, after_nodes, after_gen, usage_of}
 use Rattle.cli_commands.specs.Words.{StopAt, UsageIsOfFirstWrongWord}
 
@@ -47,11 +47,12 @@ alone_word : (word : List ℕ) → is_alone word ≡ true → IsCommand (word �
 alone_word word t =
     first_or word (codes "play") _ (play, record { words_are = refl; allowed = tt })
     (first_or word (codes "run") _ (run, record { words_are = refl; allowed = tt })
+    (first_or word (codes "piped") _ (piped, record { words_are = refl; allowed = tt })
     (first_or word (codes "mirror") _ (mirror, record { words_are = refl; allowed = tt })
     (first_or word (codes "boot") _ (boot, record { words_are = refl; allowed = tt })
     (first_or word (codes "node") _ (node, record { words_are = refl; allowed = tt })
     (first_or word (codes "fsck") _ (fsck, record { words_are = refl; allowed = tt })
-    (this_word word (codes "judge") (judge, record { words_are = refl; allowed = tt })))))))
+    (this_word word (codes "judge") (judge, record { words_are = refl; allowed = tt }))))))))
     t
 
 oev_word : (word : List ℕ) → is_oev word ≡ true → (of : SegmentTool) × (word ≡ segment_word of)
@@ -96,6 +97,7 @@ tails a b xs ys e = cc e
 no_words : (asked : Asked) → [] ≡ words_of asked → ⊥
 no_words play e = cc e
 no_words run e = cc e
+no_words piped e = cc e
 no_words mirror e = cc e
 no_words boot e = cc e
 no_words node e = cc e
@@ -108,6 +110,7 @@ no_words (list of name) e = cc e
 first_word : (word : List ℕ) (words : List (List ℕ)) (asked : Asked) → word ∷ words ≡ words_of asked → (is_alone word ≡ true) ⊎ ((word ≡ codes "oev") ⊎ ((word ≡ codes "oiv") ⊎ (word ≡ codes "gen")))
 first_word word words play e = inl (ap is_alone (heads word (codes "play") words [] e))
 first_word word words run e = inl (ap is_alone (heads word (codes "run") words [] e))
+first_word word words piped e = inl (ap is_alone (heads word (codes "piped") words [] e))
 first_word word words mirror e = inl (ap is_alone (heads word (codes "mirror") words [] e))
 first_word word words boot e = inl (ap is_alone (heads word (codes "boot") words [] e))
 first_word word words node e = inl (ap is_alone (heads word (codes "node") words [] e))
@@ -125,6 +128,7 @@ apart word program n y e = both_not (is_alone program) n (sym (ap is_alone e) �
 after_alone : (word : List ℕ) (words : List (List ℕ)) (asked : Asked) → is_alone word ≡ true → word ∷ words ≡ words_of asked → words ≡ []
 after_alone word words play y e = tails word (codes "play") words [] e
 after_alone word words run y e = tails word (codes "run") words [] e
+after_alone word words piped y e = tails word (codes "piped") words [] e
 after_alone word words mirror y e = tails word (codes "mirror") words [] e
 after_alone word words boot y e = tails word (codes "boot") words [] e
 after_alone word words node y e = tails word (codes "node") words [] e
@@ -140,6 +144,7 @@ after_alone word words (list (tool.Back start epoch) name) y e =
 program_alone : (word : List ℕ) (asked : Asked) → word ∷ [] ≡ words_of asked → is_alone word ≡ true
 program_alone word play e = ap is_alone (heads word (codes "play") [] [] e)
 program_alone word run e = ap is_alone (heads word (codes "run") [] [] e)
+program_alone word piped e = ap is_alone (heads word (codes "piped") [] [] e)
 program_alone word mirror e = ap is_alone (heads word (codes "mirror") [] [] e)
 program_alone word boot e = ap is_alone (heads word (codes "boot") [] [] e)
 program_alone word node e = ap is_alone (heads word (codes "node") [] [] e)
@@ -158,6 +163,7 @@ after_oev_is : (word : List ℕ) (words : List (List ℕ)) → bytes_eq word (co
     → (of : SegmentTool) × (name : List ℕ) × (word ∷ words ≡ segment_word of ∷ name ∷ [])
 after_oev_is word words b (play, e) = absurd (bytes_other (codes "oev") (codes "play") refl (heads (codes "oev") (codes "play") (word ∷ words) [] e.words_are))
 after_oev_is word words b (run, e) = absurd (bytes_other (codes "oev") (codes "run") refl (heads (codes "oev") (codes "run") (word ∷ words) [] e.words_are))
+after_oev_is word words b (piped, e) = absurd (bytes_other (codes "oev") (codes "piped") refl (heads (codes "oev") (codes "piped") (word ∷ words) [] e.words_are))
 after_oev_is word words b (mirror, e) = absurd (bytes_other (codes "oev") (codes "mirror") refl (heads (codes "oev") (codes "mirror") (word ∷ words) [] e.words_are))
 after_oev_is word words b (boot, e) = absurd (bytes_other (codes "oev") (codes "boot") refl (heads (codes "oev") (codes "boot") (word ∷ words) [] e.words_are))
 after_oev_is word words b (node, e) = absurd (bytes_other (codes "oev") (codes "node") refl (heads (codes "oev") (codes "node") (word ∷ words) [] e.words_are))
@@ -180,6 +186,7 @@ after_oiv_is : (word : List ℕ) (words : List (List ℕ)) → no_other word ≡
     → (of : ImageTool) × (name : List ℕ) × (word ∷ words ≡ image_word of ∷ name ∷ [])
 after_oiv_is word words b (play, e) = absurd (bytes_other (codes "oiv") (codes "play") refl (heads (codes "oiv") (codes "play") (word ∷ words) [] e.words_are))
 after_oiv_is word words b (run, e) = absurd (bytes_other (codes "oiv") (codes "run") refl (heads (codes "oiv") (codes "run") (word ∷ words) [] e.words_are))
+after_oiv_is word words b (piped, e) = absurd (bytes_other (codes "oiv") (codes "piped") refl (heads (codes "oiv") (codes "piped") (word ∷ words) [] e.words_are))
 after_oiv_is word words b (mirror, e) = absurd (bytes_other (codes "oiv") (codes "mirror") refl (heads (codes "oiv") (codes "mirror") (word ∷ words) [] e.words_are))
 after_oiv_is word words b (boot, e) = absurd (bytes_other (codes "oiv") (codes "boot") refl (heads (codes "oiv") (codes "boot") (word ∷ words) [] e.words_are))
 after_oiv_is word words b (node, e) = absurd (bytes_other (codes "oiv") (codes "node") refl (heads (codes "oiv") (codes "node") (word ∷ words) [] e.words_are))
@@ -299,6 +306,7 @@ record IsBack (words : List (List ℕ)) : Type 0 where
 after_back_is : (words : List (List ℕ)) → IsCommand (codes "oev" ∷ codes "back" ∷ words) → IsBack words
 after_back_is words (play, e) = absurd (bytes_other (codes "oev") (codes "play") refl (heads (codes "oev") (codes "play") (codes "back" ∷ words) [] e.words_are))
 after_back_is words (run, e) = absurd (bytes_other (codes "oev") (codes "run") refl (heads (codes "oev") (codes "run") (codes "back" ∷ words) [] e.words_are))
+after_back_is words (piped, e) = absurd (bytes_other (codes "oev") (codes "piped") refl (heads (codes "oev") (codes "piped") (codes "back" ∷ words) [] e.words_are))
 after_back_is words (mirror, e) = absurd (bytes_other (codes "oev") (codes "mirror") refl (heads (codes "oev") (codes "mirror") (codes "back" ∷ words) [] e.words_are))
 after_back_is words (boot, e) = absurd (bytes_other (codes "oev") (codes "boot") refl (heads (codes "oev") (codes "boot") (codes "back" ∷ words) [] e.words_are))
 after_back_is words (node, e) = absurd (bytes_other (codes "oev") (codes "node") refl (heads (codes "oev") (codes "node") (codes "back" ∷ words) [] e.words_are))
@@ -442,6 +450,7 @@ record IsGen (words : List (List ℕ)) : Type 0 where
 after_gen_is : (words : List (List ℕ)) → IsCommand (codes "gen" ∷ words) → IsGen words
 after_gen_is words (play, e) = absurd (bytes_other (codes "gen") (codes "play") refl (heads (codes "gen") (codes "play") words [] e.words_are))
 after_gen_is words (run, e) = absurd (bytes_other (codes "gen") (codes "run") refl (heads (codes "gen") (codes "run") words [] e.words_are))
+after_gen_is words (piped, e) = absurd (bytes_other (codes "gen") (codes "piped") refl (heads (codes "gen") (codes "piped") words [] e.words_are))
 after_gen_is words (mirror, e) = absurd (bytes_other (codes "gen") (codes "mirror") refl (heads (codes "gen") (codes "mirror") words [] e.words_are))
 after_gen_is words (boot, e) = absurd (bytes_other (codes "gen") (codes "boot") refl (heads (codes "gen") (codes "boot") words [] e.words_are))
 after_gen_is words (node, e) = absurd (bytes_other (codes "gen") (codes "node") refl (heads (codes "gen") (codes "node") words [] e.words_are))
@@ -620,9 +629,9 @@ no_wrong_word words asked is = by (usage_of words) refl
 unfoldable alone_at : List ℕ → Asked
 alone_at word =
     if bytes_eq word (codes "play") then play
-    else (if bytes_eq word (codes "run") then run else (if bytes_eq word (codes "mirror") then mirror
+    else (if bytes_eq word (codes "run") then run else (if bytes_eq word (codes "piped") then piped else (if bytes_eq word (codes "mirror") then mirror
     else (if bytes_eq word (codes "boot") then boot else (if bytes_eq word (codes "node") then node
-    else (if bytes_eq word (codes "fsck") then fsck else judge)))))
+    else (if bytes_eq word (codes "fsck") then fsck else judge))))))
 
 unfoldable segment_at : List ℕ → SegmentTool
 segment_at word = if bytes_eq word (codes "list") then segment.List else (if bytes_eq word (codes "stats") then segment.Stats else segment.Json)
@@ -645,6 +654,7 @@ asked_back : (asked : Asked) → IsAllowed asked → asked_at (words_of asked) �
 unfolding asked_at tool_at image_at segment_at alone_at
 asked_back play h = refl
 asked_back run h = refl
+asked_back piped h = refl
 asked_back mirror h = refl
 asked_back boot h = refl
 asked_back node h = refl
@@ -674,3 +684,14 @@ asked_back (list (tool.Back start epoch) name) h =
 -- words are of one command
 pub one_command : (words : List (List ℕ)) (a b : Asked) → AskFor words a → AskFor words b → a ≡ b
 one_command words a b p q = sym (asked_back a p.allowed) ∙ (ap asked_at (sym p.words_are ∙ q.words_are) ∙ asked_back b q.allowed)
+
+-- the words that ask for pipes
+pub asks_pipes : (words : List (List ℕ)) → asks_piped words ≡ true → AskFor words piped
+unfolding asks_piped
+asks_pipes [] t = absurd (cc t)
+asks_pipes (word ∷ []) t = record { words_are = ap (λ (w : List ℕ). w ∷ []) ((bytes_eq-Decides word (codes "piped")).0 t); allowed = tt }
+asks_pipes (word ∷ other ∷ words) t = absurd (cc t)
+
+pub pipes_asked : (words : List (List ℕ)) → AskFor words piped → asks_piped words ≡ true
+unfolding asks_piped
+pipes_asked words is = ap asks_piped is.words_are

@@ -11,13 +11,15 @@ use Rattle.cli_commands.specs.declared.tool.Tool.TheVariants as tool
 use Rattle.cli_commands.specs.declared.command.Command.{Command}
 use Rattle.cli_commands.specs.declared.command.Command.TheVariants as command
 
--- What can be asked for: a script is played, in order or by threads, or in order and its nodes are
--- mirrored or a fresh standby boots over them, a node is served, the disk's files are checked, a
--- report is judged, the script that a number gives is played, with so many edits over so many
--- nodes, or what this tool makes of the file of this name is written.
+-- What can be asked for: a script is played, in order or by threads, whose calls may go through
+-- pipes, or in order and its nodes are mirrored or a fresh standby boots over them, a node is
+-- served, the disk's files are checked, a report is judged, the script that a number gives is
+-- played, with so many edits over so many nodes, or what this tool makes of the file of this name
+-- is written.
 pub data Asked : Type 0 where
   play : Asked
   run : Asked
+  piped : Asked
   mirror : Asked
   boot : Asked
   node : Asked
@@ -30,6 +32,7 @@ pub data Asked : Type 0 where
 abbrev pub asked_in : Command → Asked
 asked_in command.Play = play
 asked_in command.Run = run
+asked_in command.Piped = piped
 asked_in command.Mirror = mirror
 asked_in command.Boot = boot
 asked_in command.Node = node
@@ -69,6 +72,7 @@ numbers_of (tool.Back start epoch) = decimal start ∷ decimal epoch ∷ []
 abbrev pub words_of : Asked → List (List ℕ)
 words_of play = codes "play" ∷ []
 words_of run = codes "run" ∷ []
+words_of piped = codes "piped" ∷ []
 words_of mirror = codes "mirror" ∷ []
 words_of boot = codes "boot" ∷ []
 words_of node = codes "node" ∷ []

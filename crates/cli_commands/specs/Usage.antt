@@ -1,5 +1,5 @@
 -- The first word that is missing or wrong.
-use Rattle.std.specs.Prelude.{ℕ, List, [], ◌∷◌, Option, Some, None, String, Bool, ◌||◌, codes, map, if◌then◌else◌}
+use Rattle.std.specs.Prelude.{ℕ, List, [], ◌∷◌, Option, Some, None, String, Bool, false, ◌||◌, codes, map, if◌then◌else◌}
 use Rattle.std.specs.Str.{bytes_eq}
 use Rattle.std.specs.String.{string_bytes}
 use Rattle.base_words.specs.WordNumbers.{is_number}
@@ -12,8 +12,8 @@ bytes_of words = map string_bytes words
 -- a command of one word
 abbrev pub is_alone : List ℕ → Bool
 is_alone word =
-    bytes_eq word (codes "play") || (bytes_eq word (codes "run") || (bytes_eq word (codes "mirror") || (bytes_eq word (codes "boot")
-    || (bytes_eq word (codes "node") || (bytes_eq word (codes "fsck") || bytes_eq word (codes "judge"))))))
+    bytes_eq word (codes "play") || (bytes_eq word (codes "run") || (bytes_eq word (codes "piped") || (bytes_eq word (codes "mirror") || (bytes_eq word (codes "boot")
+    || (bytes_eq word (codes "node") || (bytes_eq word (codes "fsck") || bytes_eq word (codes "judge")))))))
 
 -- the word of a listing of a segment's file
 abbrev pub is_oev : List ℕ → Bool
@@ -86,3 +86,9 @@ usage_of (word ∷ words) =
     else (if bytes_eq word (codes "oev") then after_oev words
     else (if bytes_eq word (codes "oiv") then after_program is_oiv words
     else (if bytes_eq word (codes "gen") then after_gen words else Some 0)))
+
+-- the words are the one word `piped`
+unfoldable pub asks_piped : List (List ℕ) → Bool
+asks_piped [] = false
+asks_piped (word ∷ []) = bytes_eq word (codes "piped")
+asks_piped (word ∷ other ∷ words) = false

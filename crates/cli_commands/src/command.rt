@@ -1,7 +1,7 @@
 //! The commands, read from the words.
 ghost use Rattle.std.specs.Prelude.{◌≡◌, [], ◌∷◌, false, Some, codes, MatchOption, MatchResult};
 ghost use Rattle.cli_commands.specs.Commands.{asked_in, AskFor};
-ghost use Rattle.cli_commands.specs.Usage.{bytes_of, is_alone, is_oev, is_oiv, after_one, after_tool, after_program, after_back, after_oev, after_gen, usage_of};
+ghost use Rattle.cli_commands.specs.Usage.{bytes_of, is_alone, is_oev, is_oiv, after_one, after_tool, after_program, after_back, after_oev, after_gen, usage_of, asks_piped};
 
 use crate::tool::Tool;
 use crate::tool_words::{image_tool_of, segment_tool_of};
@@ -23,6 +23,8 @@ pub enum Command<'a> {
     Play,
     /// To play it by threads.
     Run,
+    /// To play it by threads whose calls go through pipes.
+    Piped,
     /// To play it in order, and to mirror the final segments of its nodes.
     Mirror,
     /// To play it in order, and to boot a fresh standby over its nodes.
@@ -47,6 +49,8 @@ fn command_of<'a>(word: &str) -> Option<Command<'a>>
         Some(Command::Play)
     } else if word == "run" {
         Some(Command::Run)
+    } else if word == "piped" {
+        Some(Command::Piped)
     } else if word == "mirror" {
         Some(Command::Mirror)
     } else if word == "boot" {
@@ -216,5 +220,16 @@ pub fn read_command(words: &[String]) -> Result<Command<'_>, u64>
     match no_word(others) {
         Ok(()) => Ok(command),
         Err(place) => Err(place),
+    }
+}
+
+/// Whether the words ask for a script to be played by threads whose calls go through pipes.
+#[tactic(auto, unfolding(crate::specs::Usage::asks_piped))]
+pub fn asks_piped(words: &[String]) -> bool
+    ensures { result ≡ asks_piped (bytes_of words.now) }
+{
+    match words {
+        [word] => word.as_str() == "piped",
+        _ => false,
     }
 }

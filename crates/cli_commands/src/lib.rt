@@ -19,7 +19,7 @@ mod tool;
 mod tool_words;
 mod writing;
 
-pub use command::{Command, read_command};
+pub use command::{Command, asks_piped, read_command};
 pub use command_fault::{CommandFault, Line, file_line, line_for, status_for};
 pub use crash_examples::{crashes_in_two_lines, next_lines_are_after};
 pub use exit::Exit;

@@ -13,7 +13,7 @@ use Rattle.base_words.specs.Fields.{number_at, IsBytes}
 use Rattle.journal_core.specs.Views.{BatchView}
 use Rattle.disk_frame.specs.declared.frame_cause.FrameCause.{FrameCause}
 use Rattle.disk_frame.specs.declared.frame_cause.FrameCause.TheVariants.{Length}
-use Rattle.disk_frame.specs.Frames.{entry_bytes, inner_bytes, frame_bytes, is_bad_body, broken_rule, IsTail}
+use Rattle.disk_frame.specs.Frames.{entry_bytes, head_bytes, inner_bytes, frame_bytes, is_bad_body, broken_rule, IsTail}
 use Rattle.disk_frame.specs.Faults.{HasSeal, told_length, Spells, IsBadFrame}
 use Rattle.disk_frame.specs.Reading.{entry_at, entries_in, batch_in, first_rule, count_unless, judged}
 use Rattle.disk_frame.specs.Answers.{IsWholeFrame}
@@ -390,27 +390,18 @@ short_sized (body ∷ bodies) e =
     let le : length body ≤ 4096 = ltb-false _ _ parts.0 in
     omega (arith, le, short_sized bodies parts.1, length-append body (flat_map entry_bytes bodies))
 
-regrouped : (f a b c d : List ℕ) → ((((f ++ 165 ∷ []) ++ a) ++ b) ++ c) ++ d ≡ f ++ (165 ∷ (a ++ (b ++ (c ++ d))))
+regrouped : (f a b c d : List ℕ) → (f ++ (165 ∷ (a ++ (b ++ c)))) ++ d ≡ f ++ (165 ∷ (a ++ (b ++ (c ++ d))))
 regrouped f a b c d = simp append_assoc
 
-pub frame_built : (front : List ℕ) (first inner : ℕ) (bodies : List (List ℕ)) (items : List ℕ) → inner ≡ 12 + length (flat_map entry_bytes bodies)
-    → items ≡ ((((front ++ 165 ∷ []) ++ to_be_bytes w32 inner) ++ to_be_bytes w64 first) ++ to_be_bytes w32 (length bodies)) ++ flat_map entry_bytes bodies
-    → items ≡ front ++ frame_bytes (record { first = first; bodies = bodies })
+pub frame_joined : (front : List ℕ) (first inner : ℕ) (bodies : List (List ℕ)) (i0 head i1 items : List ℕ) → inner ≡ 12 + length (flat_map entry_bytes bodies) → i0 ≡ front
+    → head ≡ head_bytes inner first (length bodies) → i1 ≡ i0 ++ head → items ≡ i1 ++ flat_map entry_bytes bodies → items ≡ front ++ frame_bytes (record { first = first; bodies = bodies })
 unfolding frame_bytes
-frame_built front first inner bodies items is e =
+frame_joined front first inner bodies i0 head i1 items is h0 y h1 h2 =
     let n : inner ≡ length (inner_bytes (record { first = first; bodies = bodies })) = omega (arith, is) in
-    e ∙ regrouped front (to_be_bytes w32 inner) (to_be_bytes w64 first) (to_be_bytes w32 (length bodies)) (flat_map entry_bytes bodies)
+    let e : i1 ≡ front ++ head_bytes inner first (length bodies) = h1 ∙ (λ i. h0 i ++ y i) in
+    h2 ∙ ap (λ (x : List ℕ). x ++ flat_map entry_bytes bodies) e
+    ∙ regrouped front (to_be_bytes w32 inner) (to_be_bytes w64 first) (to_be_bytes w32 (length bodies)) (flat_map entry_bytes bodies)
     ∙ ap (λ (m : ℕ). front ++ (165 ∷ (to_be_bytes w32 m ++ inner_bytes (record { first = first; bodies = bodies })))) n
-
-pub frame_joined : (front : List ℕ) (first inner : ℕ) (bodies : List (List ℕ)) (i0 i1 i2 i3 i4 i5 x2 x3 x4 : List ℕ) → inner ≡ 12 + length (flat_map entry_bytes bodies) → i0 ≡ front
-    → i1 ≡ i0 ++ 165 ∷ [] → x2 ≡ to_be_bytes w32 inner → i2 ≡ i1 ++ x2 → x3 ≡ to_be_bytes w64 first → i3 ≡ i2 ++ x3 → x4 ≡ to_be_bytes w32 (length bodies) → i4 ≡ i3 ++ x4
-    → i5 ≡ i4 ++ flat_map entry_bytes bodies → i5 ≡ front ++ frame_bytes (record { first = first; bodies = bodies })
-frame_joined front first inner bodies i0 i1 i2 i3 i4 i5 x2 x3 x4 is h0 h1 y2 h2 y3 h3 y4 h4 h5 =
-    let e1 : i1 ≡ front ++ 165 ∷ [] = h1 ∙ ap (λ (x : List ℕ). x ++ 165 ∷ []) h0 in
-    let e2 : i2 ≡ (front ++ 165 ∷ []) ++ to_be_bytes w32 inner = h2 ∙ (λ i. e1 i ++ y2 i) in
-    let e3 : i3 ≡ ((front ++ 165 ∷ []) ++ to_be_bytes w32 inner) ++ to_be_bytes w64 first = h3 ∙ (λ i. e2 i ++ y3 i) in
-    let e4 : i4 ≡ (((front ++ 165 ∷ []) ++ to_be_bytes w32 inner) ++ to_be_bytes w64 first) ++ to_be_bytes w32 (length bodies) = h4 ∙ (λ i. e3 i ++ y4 i) in
-    frame_built front first inner bodies i5 is (h5 ∙ ap (λ (x : List ℕ). x ++ flat_map entry_bytes bodies) e4)
 
 -- a whole frame lies within the bytes, and the txid after it has room
 pub record InRoom (bytes : List ℕ) (at next count size : ℕ) : Type 0 where

@@ -19,6 +19,11 @@ entry_bytes body = to_be_bytes w16 (length body) ++ body
 abbrev pub inner_bytes : BatchView → List ℕ
 inner_bytes b = to_be_bytes w64 b.first ++ (to_be_bytes w32 (length b.bodies) ++ flat_map entry_bytes b.bodies)
 
+-- what stands before the entries of a frame: the seal, the length of what follows, the first txid
+-- and how many entries there are
+abbrev pub head_bytes : ℕ → ℕ → ℕ → List ℕ
+head_bytes inner first count = seal ∷ (to_be_bytes w32 inner ++ (to_be_bytes w64 first ++ to_be_bytes w32 count))
+
 -- the frame of a batch: the seal, the length of what follows, and that
 unfoldable pub frame_bytes : BatchView → List ℕ
 frame_bytes b = seal ∷ (to_be_bytes w32 (length (inner_bytes b)) ++ inner_bytes b)

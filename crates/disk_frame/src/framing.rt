@@ -3,12 +3,12 @@ ghost use Rattle.std.specs.Prelude.{◌≡◌, ◌≢◌, [], ◌+◌, ◌++◌,
 ghost use Rattle.std.specs.List.{flat_map, list_any, AllByRecursion};
 ghost use Rattle.journal_core.specs.Views.{last_txid};
 ghost use Rattle.journal_core.specs.Limits.{max_number, max_body};
-ghost use Rattle.disk_frame.specs.Frames.{entry_bytes, frame_bytes, broken_rule};
+ghost use Rattle.disk_frame.specs.Frames.{entry_bytes, head_bytes, frame_bytes, broken_rule};
 ghost use Rattle.disk_frame.specs.Answers.{passed_limit, IsFramed, IsGoodFrame};
 
 use crate::framed::Framed;
 use crate::rules::SEAL;
-use base_words::{Bytes, OutOfMemory};
+use base_words::{Bytes, OutOfMemory, put_u32, put_u64};
 use journal_core::{Batch, MAX_BODY, MAX_SEGMENT};
 use std::alloc::Global;
 
@@ -38,6 +38,21 @@ fn put_entries(out: &mut Vec<u8>, bodies: &[Bytes]) -> Result<(), OutOfMemory>
     Ok(())
 }
 
+// How many bytes of a frame stand before its entries.
+const HEAD_LENGTH: usize = 17;
+
+// What stands before the entries of a frame: the seal, the length of what follows, the first txid
+// and the count.
+fn head_of(inner: u32, first: u64, count: u32) -> [u8; HEAD_LENGTH]
+    ensures { result ≡ head_bytes inner first count }
+{
+    let mut out = [SEAL; HEAD_LENGTH];
+    put_u32(&mut out, 1, inner);
+    put_u64(&mut out, 5, first);
+    put_u32(&mut out, 13, count);
+    out
+}
+
 // The frame of these bodies from this txid on after other bytes, where they are within the limits.
 fn bytes_of(
     alloc: Global,
@@ -54,10 +69,7 @@ fn bytes_of(
     // with room for the blank seal that is going to stand after it
     let mut out = Vec::with_capacity(alloc, front.len().saturating_add(6 + inner))?;
     out.extend_from_slice(front)?;
-    out.push(SEAL)?;
-    out.extend_from_slice(&(inner as u32).to_be_bytes())?;
-    out.extend_from_slice(&first.to_be_bytes())?;
-    out.extend_from_slice(&(bodies.len() as u32).to_be_bytes())?;
+    out.extend_from_slice(&head_of(inner as u32, first, bodies.len() as u32))?;
     put_entries(&mut out, bodies)?;
     Ok(out)
 }

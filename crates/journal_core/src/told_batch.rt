@@ -6,8 +6,8 @@ use crate::batch::Batch;
 use std::alloc::Global;
 use std::marker::Model;
 
-/// A batch that a reply tells, in one word, since most replies tell none. Contracts see it as the
-/// batch. It is let go by one call wherever it is, which keeps proofs short.
+/// A batch that a reply tells, behind a pointer, since most replies tell none. Contracts see it as
+/// the batch. It is let go by one call wherever it is, which keeps proofs short.
 pub struct ToldBatch {
     batch: Box<Batch>,
 }

@@ -6,8 +6,8 @@ use crate::segment_info::SegmentInfo;
 use std::alloc::Global;
 use std::marker::Model;
 
-/// A segment's state, or none, in one word. Contracts see it as an option. It is let go by one call
-/// wherever it is, which keeps proofs short.
+/// A segment's state behind a pointer, or none. Contracts see it as an option. It is let go by one
+/// call wherever it is, which keeps proofs short.
 pub struct ToldSegment {
     info: Option<Box<SegmentInfo>>,
 }

@@ -29,7 +29,7 @@ impl Drop for HistoryLine {
 }
 
 impl HistoryLine {
-    /// This line as a list holds it, in memory of its own unless it is of a request that is
+    /// This line as a list holds it, with memory of its own unless it is of a request that is
     /// answered by ok. `OutOfMemory` where there is no room.
     fn into_listed(self, alloc: Global) -> Result<ListedLine, OutOfMemory>
         ensures { IfOk result (λ listed. listed ≡ self) }
@@ -39,21 +39,18 @@ impl HistoryLine {
             ask,
             answer,
         } = self;
-        let ask = match ask.into_act() {
-            Ok((late, request)) if answer.is_ok() => {
-                return Ok(ListedLine::plain(caller, late, request));
-            }
-            Ok((late, request)) => NodeAsk::Act { late, request },
-            Err(ask) => ask,
-        };
-        ListedLine::other(
-            alloc,
-            HistoryLine {
-                caller,
-                ask,
-                answer,
-            },
-        )
+        match ask.into_act() {
+            Ok((late, request)) if answer.is_ok() => Ok(ListedLine::plain(caller, late, request)),
+            Ok((late, request)) => ListedLine::answered(alloc, caller, late, request, answer),
+            Err(ask) => ListedLine::other(
+                alloc,
+                HistoryLine {
+                    caller,
+                    ask,
+                    answer,
+                },
+            ),
+        }
     }
 }
 

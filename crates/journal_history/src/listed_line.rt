@@ -1,6 +1,6 @@
 //! A line of a history in a few words.
 ghost use Rattle.std.specs.Prelude.{◌≡◌, IfOk};
-ghost use Rattle.journal_history.specs.Held.{plain_line};
+ghost use Rattle.journal_history.specs.Held.{plain_line, answered_line};
 ghost use Rattle.journal_history.specs.Listed.{ok_answer, shown_line};
 
 use crate::history_line::HistoryLine;
@@ -10,20 +10,34 @@ use std::alloc::Global;
 use std::marker::Model;
 
 /// A line of a history as a list holds it: in three words where a request is answered by ok, as
-/// most are. Contracts see it as the line. It is let go by one call wherever it is, which keeps
-/// proofs short.
+/// most are. Of another answer to a request the three words have all but the request and the
+/// answer. Contracts see it as the line. It is let go by one call wherever it is, which keeps proofs
+/// short.
 pub struct ListedLine {
     line: HeldLine,
 }
 
-/// A request that is answered by ok, or any other line in memory of its own.
+/// A request that is answered by ok, one with another answer, or any other line in memory of its
+/// own.
 enum HeldLine {
     Plain {
         caller: u32,
         late: bool,
         request: SharedRequest,
     },
+    Answered {
+        caller: u32,
+        late: bool,
+        call: Box<AnsweredRequest>,
+    },
     Other(Box<HistoryLine>),
+}
+
+/// A request and its answer, in memory of their own. They are let go by one call wherever they are,
+/// which keeps proofs short.
+struct AnsweredRequest {
+    request: SharedRequest,
+    answer: NodeAnswer,
 }
 
 /// A line of a history, lent by a list.
@@ -37,6 +51,17 @@ pub struct LentLine<'a> {
 /// Lists of millions of lines are held in memory.
 const _: () = prove!(size_of::<ListedLine>() == 24);
 
+/// The lines of refused requests are held in memory too.
+const _: () = prove!(size_of::<AnsweredRequest>() == 56);
+
+impl Drop for AnsweredRequest {
+    fn drop(self) {
+        let AnsweredRequest { request, answer } = self;
+        drop(request);
+        drop(answer);
+    }
+}
+
 impl Drop for HeldLine {
     fn drop(self) {
         match self {
@@ -44,6 +69,11 @@ impl Drop for HeldLine {
                 caller: _,
                 late: _,
                 request: _,
+            } => {}
+            HeldLine::Answered {
+                caller: _,
+                late: _,
+                call: _,
             } => {}
             HeldLine::Other(_) => {}
         }
@@ -80,6 +110,23 @@ impl ListedLine {
         }
     }
 
+    /// A line of a request with this answer, both in memory of their own. `OutOfMemory` where there
+    /// is no room.
+    pub(crate) fn answered(
+        alloc: Global,
+        caller: u32,
+        late: bool,
+        request: SharedRequest,
+        answer: NodeAnswer,
+    ) -> Result<ListedLine, OutOfMemory>
+        ensures { IfOk result (λ listed. listed ≡ answered_line caller late request answer) }
+    {
+        let call = Box::new(alloc, AnsweredRequest { request, answer })?;
+        Ok(ListedLine {
+            line: HeldLine::Answered { caller, late, call },
+        })
+    }
+
     /// That line, in memory of its own. `OutOfMemory` where there is no room.
     pub(crate) fn other(alloc: Global, line: HistoryLine) -> Result<ListedLine, OutOfMemory>
         ensures { IfOk result (λ listed. listed ≡ line) }
@@ -94,6 +141,7 @@ impl ListedLine {
     {
         match &self.line {
             HeldLine::Plain { caller, .. } => *caller,
+            HeldLine::Answered { caller, .. } => *caller,
             HeldLine::Other(line) => line.caller,
         }
     }
@@ -115,6 +163,14 @@ impl ListedLine {
                     request,
                 },
                 answer: ok,
+            },
+            HeldLine::Answered { caller, late, call } => LentLine {
+                caller: *caller,
+                ask: LentAsk::Act {
+                    late: *late,
+                    request: &call.request,
+                },
+                answer: &call.answer,
             },
             HeldLine::Other(line) => LentLine {
                 caller: line.caller,

@@ -11,17 +11,28 @@ use std::alloc::Global;
 use std::marker::Model;
 
 /// A line of a caller's record as a list holds it: in three words where it is a call that was
-/// answered by ok, as most are, or a result. Contracts see it as the line. It is let go by one call
+/// answered by ok, as most are, a late copy or a result. Of another call the three words have all
+/// but the request and what was heard of it. Contracts see it as the line. It is let go by one call
 /// wherever it is, which keeps proofs short.
 pub struct ListedRecord {
     line: HeldRecord,
 }
 
-/// A call that was answered by ok, a result, or any other line in memory of its own.
+/// A call that was answered by ok, one of which something else was heard, a late copy, a result, or
+/// any other line in memory of its own.
 enum HeldRecord {
     Plain { node: usize, request: SharedRequest },
+    Told { node: usize, call: Box<ToldRequest> },
+    Late { node: usize, request: SharedRequest },
     Outcome { text: Bytes },
     Other(Box<Record>),
+}
+
+/// What a call asked and what was heard of it, in memory of their own. They are let go by one call
+/// wherever they are, which keeps proofs short.
+struct ToldRequest {
+    request: SharedRequest,
+    told: Told,
 }
 
 /// A line of a caller's record, lent by a list.
@@ -53,10 +64,26 @@ pub enum LentRecord<'a> {
 /// Lists of millions of lines are held in memory.
 const _: () = prove!(size_of::<ListedRecord>() == 24);
 
+/// The lines of refused calls are held in memory too.
+const _: () = prove!(size_of::<ToldRequest>() == 56);
+
+impl Drop for ToldRequest {
+    fn drop(self) {
+        let ToldRequest { request, told } = self;
+        drop(request);
+        drop(told);
+    }
+}
+
 impl Drop for HeldRecord {
     fn drop(self) {
         match self {
             HeldRecord::Plain {
+                node: _,
+                request: _,
+            } => {}
+            HeldRecord::Told { node: _, call: _ } => {}
+            HeldRecord::Late {
                 node: _,
                 request: _,
             } => {}
@@ -121,6 +148,31 @@ impl ListedRecord {
         }
     }
 
+    /// A call of which this was heard, with the request in memory of their own. `OutOfMemory` where
+    /// there is no room.
+    pub(crate) fn told(
+        alloc: Global,
+        node: usize,
+        request: SharedRequest,
+        told: Told,
+    ) -> Result<ListedRecord, OutOfMemory>
+        ensures { IfOk result (λ listed. listed ≡ record_.Call node request told) }
+    {
+        let call = Box::new(alloc, ToldRequest { request, told })?;
+        Ok(ListedRecord {
+            line: HeldRecord::Told { node, call },
+        })
+    }
+
+    /// A late copy.
+    pub(crate) fn late(node: usize, request: SharedRequest) -> ListedRecord
+        ensures { result ≡ record_.Late node request }
+    {
+        ListedRecord {
+            line: HeldRecord::Late { node, request },
+        }
+    }
+
     /// A result line.
     pub(crate) fn outcome(text: Bytes) -> ListedRecord
         ensures { result ≡ record_.Outcome text }
@@ -148,6 +200,15 @@ impl ListedRecord {
                 node: *node,
                 request,
                 told: ok,
+            },
+            HeldRecord::Told { node, call } => LentRecord::Call {
+                node: *node,
+                request: &call.request,
+                told: &call.told,
+            },
+            HeldRecord::Late { node, request } => LentRecord::Late {
+                node: *node,
+                request,
             },
             HeldRecord::Outcome { text } => LentRecord::Outcome { text },
             HeldRecord::Other(line) => line.lend(),

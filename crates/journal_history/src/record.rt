@@ -94,8 +94,8 @@ impl Drop for Record {
 }
 
 impl Record {
-    /// This line as a list holds it, in memory of its own unless it is a call that was answered by
-    /// ok, or a result. `OutOfMemory` where there is no room.
+    /// This line as a list holds it, with memory of its own unless it is a call that was answered by
+    /// ok, a late copy or a result. `OutOfMemory` where there is no room.
     fn into_listed(self, alloc: Global) -> Result<ListedRecord, OutOfMemory>
         ensures { IfOk result (λ listed. listed ≡ self) }
     {
@@ -105,6 +105,12 @@ impl Record {
                 request,
                 told,
             } if told.is_ok() => Ok(ListedRecord::plain(node, request)),
+            Record::Call {
+                node,
+                request,
+                told,
+            } => ListedRecord::told(alloc, node, request, told),
+            Record::Late { node, request } => Ok(ListedRecord::late(node, request)),
             Record::Outcome { text } => Ok(ListedRecord::outcome(text)),
             line => ListedRecord::other(alloc, line),
         }

@@ -1,4 +1,5 @@
 //! What a case is.
+use crate::hold::Hold;
 use base_disk::Choice;
 use std::alloc::Global;
 
@@ -39,6 +40,8 @@ pub struct Case {
     pub files: Vec<NamedFile>,
     /// After how many calls the disk stops.
     pub stop: Option<u64>,
+    /// The call of threads that is held.
+    pub hold: Option<Hold>,
     /// Whether it is done without threads, over a disk that doesn't tell its bytes.
     pub is_alone: bool,
     pub tells_files: bool,
@@ -62,6 +65,7 @@ impl Case {
             before: DiskBefore::Emptied,
             files: Vec::new(alloc),
             stop: None,
+            hold: None,
             is_alone: false,
             tells_files: false,
             tells_passes: false,

@@ -1,5 +1,6 @@
 //! The lines of a case.
 use crate::case::{Case, DiskBefore, LostCalls, NamedFile};
+use crate::hold::Hold;
 use anyhow::bail;
 use case_files::{CaseText, bytes_of, choice_of, put_input, two_words, word_and_rest};
 use std::alloc::{AllocError, Global};
@@ -31,6 +32,7 @@ impl Case {
             "room" => self.room = rest.parse()?,
             "lost" => self.lost.take(rest)?,
             "stop" => self.stop = Some(rest.parse()?),
+            "hold" => self.hold = Some(hold_of(rest)?),
             "crash" => self.before = DiskBefore::Crashed(choice_of(rest)?),
             "file" => self.files.push(file_of_bytes(rt.alloc(), rest)?)?,
             "text" => self.files.push(file_of_text(rt.alloc(), rest)?)?,
@@ -67,6 +69,14 @@ impl LostCalls {
         calls.push(number.parse()?)?;
         Ok(())
     }
+}
+
+fn hold_of(text: &str) -> anyhow::Result<Hold> {
+    let (node, until) = two_words(text)?;
+    Ok(Hold {
+        node: node.parse()?,
+        until: until.parse()?,
+    })
 }
 
 fn put_words(alloc: Global, words: &mut Vec<String>, text: &str) -> Result<(), AllocError> {

@@ -1,6 +1,7 @@
 //! A case is done.
 use crate::case::{Case, DiskBefore, NamedFile};
 use crate::counted_pass::CountedPass;
+use crate::hold::HoldEnd;
 use base_disk::{Disk, DiskFail, MemDisk, UntoldDisk};
 use base_outside::{MemSink, MemSource};
 use cli_commands::Status;
@@ -17,6 +18,8 @@ pub struct Done {
     pub status: Option<Status>,
     pub text: Vec<u8>,
     pub passes: u64,
+    /// How the call ended that was to be held, if there was one.
+    pub hold: Option<HoldEnd>,
 }
 
 /// What the program reads and writes, and what its threads pass.
@@ -33,7 +36,7 @@ impl Ends {
         Ok(Ends {
             source,
             sink: MemSink::new(alloc, case.room, case.lost.writes.clone()?)?,
-            pass: CountedPass::new(),
+            pass: CountedPass::new(case.hold),
         })
     }
 
@@ -42,6 +45,7 @@ impl Ends {
             status,
             text: self.sink.bytes().to_vec(alloc)?,
             passes: self.pass.passes(),
+            hold: self.pass.hold_end(),
         })
     }
 }

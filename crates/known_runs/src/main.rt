@@ -8,6 +8,7 @@ mod case;
 mod case_line;
 mod counted_pass;
 mod doing;
+mod hold;
 mod telling;
 
 use crate::case::Case;

@@ -21,6 +21,9 @@ pub fn tell<R: Print + AllocGlobal>(
     if case.tells_passes {
         println!(rt; "passes {}", done.passes)?;
     }
+    if let Some(end) = done.hold {
+        println!(rt; "hold {end:?}")?;
+    }
     if case.tells_files {
         tell_files(rt, disk)?;
     }

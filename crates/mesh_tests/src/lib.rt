@@ -3,6 +3,8 @@
 //! what a mirror of the nodes gives, the images of the actors and the files of the nodes, and how a
 //! standby boots over them.
 //!
+//! Tests of the calls of a round that are made side by side, through the pipes of threads.
+//!
 //! Tests of pipes: calls over a pipe with stale replies, cut lines and failing ends; a round's
 //! requests before its replies; and a session of tagged lines.
 #![tactic(auto)]
@@ -39,6 +41,8 @@ mod running;
 mod served;
 #[cfg(test)]
 mod side_by_side;
+#[cfg(test)]
+mod side_by_side_pipes;
 #[cfg(test)]
 mod threads;
 #[cfg(test)]

@@ -7,6 +7,7 @@ use ns_tree::LastSpace;
 use play_actor::{ScriptActor, plain_nodes};
 use play_calls::Seats;
 use play_model::{Played, scripts_are_playable};
+use play_pipes::run_piped_on;
 use play_script::{ReadScript, Script, ScriptLine, read_script};
 use play_threads::{Actors, Pass, act_alone, run_on};
 use std::alloc::Global;
@@ -32,6 +33,7 @@ impl Actors for TestedActors {
 fn run_script<R: Threads + Wait + Sync, G: Pass + Sync>(
     rt: &R,
     alloc: Global,
+    has_pipes: bool,
     script: &Script,
     pass: &G,
 ) -> Result<Played<PlainNode>, OutOfMemory>
@@ -39,7 +41,25 @@ fn run_script<R: Threads + Wait + Sync, G: Pass + Sync>(
 {
     scripts_are_playable();
     let nodes = plain_nodes(alloc, script.nodes())?;
-    run_on::<TestedActors, _, _, _>(rt, alloc, nodes, script, pass)
+    if has_pipes {
+        run_piped_on::<TestedActors, _, _, _>(rt, alloc, nodes, script, pass)
+    } else {
+        run_on::<TestedActors, _, _, _>(rt, alloc, nodes, script, pass)
+    }
+}
+
+/// What the script with this text leaves, run through pipes or not.
+fn leave<R: Threads + Wait + Sync, G: Pass + Sync>(
+    rt: &R,
+    alloc: Global,
+    has_pipes: bool,
+    text: &[u8],
+    pass: &G,
+) -> Result<Played<PlainNode>, Fail> {
+    let ReadScript::Script(script) = read_script(alloc, text) else {
+        return Err("it is no script".into());
+    };
+    Ok(run_script(rt, alloc, has_pipes, &script, pass)?)
 }
 
 /// What a run of the script with this text leaves.
@@ -49,8 +69,15 @@ pub(crate) fn run_text<R: Threads + Wait + Sync, G: Pass + Sync>(
     text: &[u8],
     pass: &G,
 ) -> Result<Played<PlainNode>, Fail> {
-    let ReadScript::Script(script) = read_script(alloc, text) else {
-        return Err("it is no script".into());
-    };
-    Ok(run_script(rt, alloc, &script, pass)?)
+    leave(rt, alloc, false, text, pass)
+}
+
+/// What a run of the script with this text leaves, through pipes.
+pub(crate) fn run_piped_text<R: Threads + Wait + Sync, G: Pass + Sync>(
+    rt: &R,
+    alloc: Global,
+    text: &[u8],
+    pass: &G,
+) -> Result<Played<PlainNode>, Fail> {
+    leave(rt, alloc, true, text, pass)
 }

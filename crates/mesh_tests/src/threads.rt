@@ -1,9 +1,11 @@
 //! Lists of runs by threads agree, and fresh nodes that take their epoch orders come to the states
 //! of their nodes.
-use crate::draws::{Draws, draw_script};
+use crate::draws::{Draws, draw_piped_script, draw_script};
 use crate::plays::order_of;
 use crate::replayed::are_replayed;
-use crate::running::run_text;
+use crate::running::{run_piped_text, run_text};
+use journal_step::PlainNode;
+use play_model::Played;
 use play_threads::FreePass;
 use std::alloc::Global;
 use std::process::Abort;
@@ -17,8 +19,12 @@ const ALL_LINES: &str =
 const COMPETING_NAMES: &str =
     "names 3\nname a\nname b\nname s\ntakeover a\nlog a mkdir /a 1 755 u g\ntakeover b\nlog b mkdir /b 2 755 u g\ntail s\ntail a\n";
 
-fn is_run<R: Threads + Wait + Sync + Abort>(rt: &R, alloc: Global, text: &str) -> Result<(), Fail> {
-    let ran = run_text(rt, alloc, text.as_bytes(), &FreePass)?;
+fn is_sound<R: Abort>(
+    rt: &R,
+    alloc: Global,
+    ran: &Played<PlainNode>,
+    text: &str,
+) -> Result<(), Fail> {
     let Some(events) = order_of(alloc, &ran.mesh)? else {
         return Err("the lists don't agree".into());
     };
@@ -27,6 +33,20 @@ fn is_run<R: Threads + Wait + Sync + Abort>(rt: &R, alloc: Global, text: &str) -
         "{text}"
     );
     Ok(())
+}
+
+fn is_run<R: Threads + Wait + Sync + Abort>(rt: &R, alloc: Global, text: &str) -> Result<(), Fail> {
+    let ran = run_text(rt, alloc, text.as_bytes(), &FreePass)?;
+    is_sound(rt, alloc, &ran, text)
+}
+
+fn is_piped<R: Threads + Wait + Sync + Abort>(
+    rt: &R,
+    alloc: Global,
+    text: &str,
+) -> Result<(), Fail> {
+    let ran = run_piped_text(rt, alloc, text.as_bytes(), &FreePass)?;
+    is_sound(rt, alloc, &ran, text)
 }
 
 #[test]
@@ -44,6 +64,16 @@ fn lists_of_random_runs_agree(rt: HostRuntime) -> Result<(), Fail> {
     for _ in 0..50 {
         let text = draw_script(rt.alloc(), &mut draws)?;
         is_run(&rt, rt.alloc(), text.as_str())?;
+    }
+    Ok(())
+}
+
+#[test]
+fn lists_of_random_runs_through_pipes_agree(rt: HostRuntime) -> Result<(), Fail> {
+    let mut draws = Draws::new(2);
+    for _ in 0..50 {
+        let text = draw_piped_script(rt.alloc(), &mut draws)?;
+        is_piped(&rt, rt.alloc(), text.as_str())?;
     }
     Ok(())
 }

@@ -8,7 +8,7 @@ use Rattle.std.proofs.lemmas.Bool.Decides.{nat_tests}
 use Rattle.ns_tree.specs.declared.inode.Inode.{Inode}
 use Rattle.ns_tree.specs.declared.inode.Row.{Row}
 use Rattle.ns_tree.specs.Path.{same_text, begins_with, stem, path_of_stem, is_under, is_path, is_root, has_slash, before_last_slash, parent_of, walk_cmp}
-use Rattle.ns_tree.specs.Space.{find, is_dir, is_dir_there, has_under, Each, IsInWalkOrder, IsInode, IsPair}
+use Rattle.ns_tree.specs.Space.{find, is_dir, is_dir_there, has_under, Each, IsInWalkOrder, IsPair}
 use Rattle.ns_tree.specs.Places.{IsTree}
 use Rattle.ns_tree.specs.Last.{last_path, has_parent}
 use Rattle.ns_tree.proofs.Order.{same_text_is, same_text_self}
@@ -20,8 +20,7 @@ use Rattle.ns_tree.proofs.UnderPaths.{under_between}
 use Rattle.ns_tree.proofs.Ancestors.{no_dir_empty}
 use Rattle.ns_tree.proofs.Last.{some_rows, gap_at_end}
 use Rattle.ns_image.specs.Rows.{MayStand, EndsAt, is_above_last}
-use Rattle.ns_image.proofs.RowLaws.{root_row}
-use Rattle.ns_image.proofs.Trees.{Found, found_in, only_root, grown, root_alone}
+use Rattle.ns_image.proofs.Trees.{Found, found_in, only_root, grown}
 
 -- ## A path and its parent
 -- a path lies under the directory that it stands in

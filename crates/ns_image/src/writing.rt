@@ -144,12 +144,13 @@ fn put_row(out: &mut Vec<u8>, row: &Row) -> Result<(), OutOfMemory>
 }
 
 // Appends all rows.
-fn put_rows(out: &mut Vec<u8>, namespace: &Namespace) -> Result<(), OutOfMemory>
+fn put_rows(alloc: Global, out: &mut Vec<u8>, namespace: &Namespace) -> Result<(), OutOfMemory>
     ensures { OnOk result (out.new.items ≡ out.old.items ++ flat_map row_bytes namespace.now.pairs) }
 {
     namespace.show_invariant();
-    for i in 0..namespace.row_count() {
-        put_row(out, namespace.row(i))?;
+    let rows = namespace.walk(alloc)?;
+    for row in &rows {
+        put_row(out, row)?;
     }
     Ok(())
 }
@@ -211,7 +212,7 @@ fn write_image(alloc: Global, namespace: &Namespace, txid: u64) -> Result<Vec<u8
 {
     let mut out = Vec::new(alloc);
     put_head(&mut out, txid, namespace.row_count() as u32)?;
-    put_rows(&mut out, namespace)?;
+    put_rows(alloc, &mut out, namespace)?;
     namespace.show_invariant();
     put_calls(&mut out, namespace.calls())?;
     Ok(out)

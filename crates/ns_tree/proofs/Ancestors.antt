@@ -1,7 +1,7 @@
 -- What is under a path has that path above it as a directory: nothing is under a path where no
 -- directory is.
 use Rattle.std.proofs.Common.{◌≡◌, ℕ, zero, suc, ◌<◌, ◌≤◌, List, [], ◌∷◌, ◌++◌, length, Bool, true, false, cond, refl, sym, ap, ◌∙◌, append-nil, Option, Some, None, IsSome, arith, ◌==◌}
-use Rattle.std.specs.Prelude.{is_some, ◌||◌}
+use Rattle.std.specs.Prelude.{is_some}
 use Rattle.std.proofs.lemmas.Bool.Decides.{nat_tests}
 use Rattle.std.proofs.lemmas.Bool.{or_right}
 use Rattle.ns_tree.specs.declared.inode.Inode.{Inode}
@@ -13,7 +13,6 @@ use Rattle.ns_tree.proofs.Order.{same_text_is, walk_cmp_self}
 use Rattle.ns_tree.proofs.Walks.{each_imp}
 use Rattle.ns_tree.proofs.Parents.{Below, shorter}
 use Rattle.ns_tree.proofs.UnderPaths.{under_after, not_true}
-use Rattle.ns_tree.proofs.Subtree.{has_under_none}
 use Rattle.ns_tree.proofs.Tails.{is_tail, Tail, tail_of, parent_tail, tail_parent}
 
 pub dir_some : (o : Option Inode) → is_dir_there o ≡ true → is_some o ≡ true
@@ -28,6 +27,10 @@ found_parent ys (x ∷ xs) q h e = by (same_text q x.path) refl e (λ f. found_p
         → (is_some (find q xs) ≡ true → is_dir_there (find (parent_of q) ys) ≡ true) → is_dir_there (find (parent_of q) ys) ≡ true
     by true s e go = ap (λ (w : List ℕ). is_dir_there (find (parent_of w) ys)) (same_text_is q x.path s) ∙ h.0.parent
     by false s e go = go e
+
+has_under_none : (p : List ℕ) (xs : List Row) → Each (λ x. is_under p x.path ≡ false) xs → has_under p xs ≡ false
+has_under_none p [] e = refl
+has_under_none p (x ∷ xs) e = rw e.0 (has_under_none p xs e.1)
 
 module _ (s : Space) (p : List ℕ) (h : IsTree s) (b : Below p) where
   -- a directory under p has a directory at p

@@ -1,13 +1,13 @@
 -- The order of a walk is the order of the lists of components, and what is under a directory comes
 -- right after it.
-use Rattle.std.proofs.Common.{◌≡◌, ℕ, ◌+◌, List, [], ◌∷◌, ◌++◌, Bool, true, false, refl, sym, ap, ◌∙◌, arith, ◌==◌, ◌&&◌}
+use Rattle.std.proofs.Common.{◌≡◌, ℕ, ◌+◌, List, [], ◌∷◌, Bool, true, false, refl, sym, ap, ◌∙◌, arith, ◌==◌, ◌&&◌}
 use Rattle.std.proofs.lemmas.Bool.Decides.{nat_tests}
 use Rattle.std.specs.declared.cmp.Ordering.{Ordering}
 use Rattle.std.specs.declared.cmp.Ordering.TheVariants.{Less, Equal, Greater}
 use Rattle.std.specs.Ordering.{nat_cmp, ordering_then}
 use Rattle.std.specs.Cmp.Lexicographic.{slice_cmp}
-use Rattle.ns_tree.specs.Path.{is_path, walk_cmp}
-use Rattle.ns_tree.specs.Components.{first_part, later_parts, components, by_components, WalkIsByComponents, UnderComesRightAfter}
+use Rattle.ns_tree.specs.Path.{walk_cmp}
+use Rattle.ns_tree.specs.Components.{first_part, later_parts, by_components, WalkIsByComponents, UnderComesRightAfter}
 use Rattle.ns_tree.proofs.UnderPaths.{under_after, under_between}
 use Rattle.ns_tree.proofs.Parents.{path_long}
 

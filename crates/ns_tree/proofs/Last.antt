@@ -1,18 +1,17 @@
 -- A row that comes after the last one is put at the end.
-use Rattle.std.proofs.Common.{◌≡◌, ℕ, suc, ◌-◌, ◌<◌, ◌≤◌, List, [], ◌∷◌, length, get_or, true, refl, sym, ap, subst, ◌∙◌, arith}
-use Rattle.std.specs.declared.cmp.Ordering.{Ordering}
-use Rattle.std.specs.declared.cmp.Ordering.TheVariants.{Less, Equal, Greater}
-use Rattle.std.specs.Ordering.{is_lt}
+use Rattle.std.proofs.Common.{◌≡◌, ℕ, ◌<◌, ◌≤◌, List, [], ◌∷◌, length, true, refl, sym, subst, arith, None, ◌++◌, append-nil}
+use Rattle.std.specs.declared.cmp.Ordering.TheVariants.{Less}
 use Rattle.std.specs.List.{insert}
 use Rattle.std.proofs.lemmas.List.{take_all, drop_all}
+use Rattle.ns_tree.specs.declared.inode.Inode.{Inode}
 use Rattle.ns_tree.specs.declared.inode.Row.{Row}
 use Rattle.ns_tree.specs.Path.{walk_cmp, is_path}
-use Rattle.ns_tree.specs.Space.{Space, find, is_dir_there, Each, IsInWalkOrder, IsInode, IsPair}
+use Rattle.ns_tree.specs.Space.{Space, pair, find, put, is_dir_there, Each, IsInWalkOrder, IsInode}
 use Rattle.ns_tree.specs.Places.{IsGapFor, IsTree}
 use Rattle.ns_tree.specs.Last.{last_path, is_after_last, has_parent}
-use Rattle.ns_tree.proofs.Order.{walk_cmp_total}
+use Rattle.ns_tree.proofs.Order.{walk_cmp_total, not_same_before}
 use Rattle.ns_tree.proofs.Walks.{is_less}
-use Rattle.ns_tree.proofs.Place.{each_at, put_gap, find_gap}
+use Rattle.ns_tree.proofs.Place.{put_gap, find_gap, before_kept, after_none}
 use Rattle.ns_tree.proofs.Sound.{sound_put}
 
 -- the root is there
@@ -22,19 +21,6 @@ some_rows s h = by s.pairs h.root
     by : (xs : List Row) → is_dir_there (find (47 ∷ []) xs) ≡ true → 0 < length xs
     by [] e = absurd cc
     by (x ∷ xs) e = omega arith
-
-pub last_at : (xs : List Row) (d : Row) → 0 < length xs → last_path xs ≡ (get_or xs (length xs - 1) d).path
-last_at [] d h = absurd (omega arith)
-last_at (x ∷ []) d h = refl
-last_at (x ∷ y ∷ xs) d h =
-    let k : length (x ∷ y ∷ xs) - 1 ≡ suc (length (y ∷ xs) - 1) = omega arith in
-    last_at (y ∷ xs) d (omega arith) ∙ ap (λ (n : ℕ). (get_or (x ∷ y ∷ xs) n d).path) (sym k)
-
--- the directory of the last row is there
-pub last_parent : (s : Space) (x : Row) → IsTree s → 0 < length s.pairs → x ≡ get_or s.pairs (length s.pairs - 1) x → has_parent x.path s.pairs ≡ true
-last_parent s x h some is =
-    let there : IsPair s.pairs (get_or s.pairs (length s.pairs - 1) x) = each_at (IsPair s.pairs) s.pairs h.pairs (length s.pairs - 1) x (omega (arith, some)) in
-    ap (λ (y : Row). has_parent y.path s.pairs) is ∙ there.parent
 
 -- a walk comes to every row before a path that comes after the last
 pub all_before : (p : List ℕ) (xs : List Row) → IsInWalkOrder xs → walk_cmp (last_path xs) p ≡ Less → Each (λ x. walk_cmp x.path p ≡ Less) xs
@@ -59,3 +45,16 @@ sound_append s x h path short inode last parent =
     let gap : IsGapFor s.pairs x.path (length s.pairs) = gap_at_end x.path s.pairs h.ordered last in
     subst (λ (ys : List Row). IsTree (record s { pairs = ys })) (put_gap s.pairs x.path (length s.pairs) x.inode gap)
     (sound_put s x.path x.inode h path short inode (find_gap s.pairs x.path (length s.pairs) gap) parent)
+
+-- it is absent, and put at the end
+find_before : (p : List ℕ) (xs : List Row) → Each (λ x. walk_cmp x.path p ≡ Less) xs → find p xs ≡ None
+find_before p [] h = refl
+find_before p (x ∷ xs) h = rw (not_same_before p x.path h.0) (find_before p xs h.1)
+
+pub append_absent : (p : List ℕ) (xs : List Row) → IsInWalkOrder xs → is_after_last p xs ≡ true → find p xs ≡ None
+append_absent p xs o e = find_before p xs (all_before p xs o (is_less (walk_cmp (last_path xs) p) e))
+
+pub append_put : (p : List ℕ) (i : Inode) (xs : List Row) → IsInWalkOrder xs → is_after_last p xs ≡ true → put p i xs ≡ xs ++ pair p i ∷ []
+append_put p i xs o e =
+    let before = all_before p xs o (is_less (walk_cmp (last_path xs) p) e) in
+    rw (before_kept p xs before, after_none p xs before) (append-nil (xs ++ pair p i ∷ []))

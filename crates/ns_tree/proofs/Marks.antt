@@ -1,14 +1,14 @@
 -- The marks of calls, and a list of calls of which the first ones have gone.
 use Rattle.std.proofs.Common.{◌≡◌, ◌≢◌, ℕ, zero, suc, ◌+◌, ◌-◌, ◌<◌, ◌≤◌, List, [], ◌∷◌, ◌++◌, length, length-append, length-drop, drop, set, get_or}
-use Rattle.std.proofs.Common.{None, Bool, true, false, refl, sym, ap, ◌∙◌, subst, arith, ◌==◌, ◌&&◌}
+use Rattle.std.proofs.Common.{None, Bool, true, false, refl, sym, ◌∙◌, subst, arith, ◌==◌, ◌&&◌}
 use Rattle.std.specs.Prelude.{nat_le}
-use Rattle.std.proofs.lemmas.List.{drop-append-le, drop-drop, get_or-set_other}
+use Rattle.std.proofs.lemmas.List.{drop-append-le, get_or-set_other}
 use Rattle.std.proofs.lemmas.Grind.{get_or-set_at}
 use Rattle.std.proofs.lemmas.Bool.Decides.{nat_tests}
 use Rattle.edit_ops.specs.declared.call.Call.{Call}
 use Rattle.ns_tree.specs.declared.inode.Noted.{Noted}
 use Rattle.ns_tree.specs.Path.{same_text}
-use Rattle.ns_tree.specs.Space.{same_call, txid_of, last_calls, noted, AreRising}
+use Rattle.ns_tree.specs.Space.{same_call, txid_of, noted, AreRising}
 use Rattle.ns_tree.specs.Marks.{mark_of, AreMarked}
 use Rattle.ns_tree.proofs.Order.{same_text_is}
 

@@ -8,7 +8,7 @@ use Rattle.std.proofs.lemmas.List.Elements.{All-cons}
 use Rattle.std.proofs.lemmas.List.Kept.{AllPairs-cons}
 use Rattle.ns_tree.specs.declared.inode.Row.{Row}
 use Rattle.ns_tree.specs.Path.{walk_cmp, part_under, is_right_under}
-use Rattle.ns_tree.specs.Space.{Each, IsInWalkOrder, names_under, AreInByteOrder}
+use Rattle.ns_tree.specs.Space.{Each, IsInWalkOrder, find, is_dir_there, names_under, children_of, AreInByteOrder}
 use Rattle.ns_tree.proofs.TwoNames.{name_less}
 
 abbrev IsBefore : List ℕ → List ℕ → Type 0
@@ -37,5 +37,9 @@ names_ordered p (x ∷ xs) h = by (is_right_under p x.path) refl (names_ordered 
     by true k rest = AllPairs-cons IsBefore (part_under p x.path) (names_under p xs) (all_after p x xs k h.0) rest
     by false k rest = rest
 
-pub are_ordered : (p : List ℕ) (xs : List Row) (names : List (List ℕ)) → names ≡ names_under p xs → IsInWalkOrder xs → AreInByteOrder names
-are_ordered p xs names e h = subst AreInByteOrder (sym e) (names_ordered p xs h)
+pub children_ordered : (p : List ℕ) (xs : List Row) (names : List (List ℕ)) → names ≡ children_of p xs → IsInWalkOrder xs → AreInByteOrder names
+children_ordered p xs names e h = subst AreInByteOrder (sym e) (by (is_dir_there (find p xs)))
+  where
+    by : (z : Bool) → AreInByteOrder (cond z (names_under p xs) [])
+    by true = names_ordered p xs h
+    by false = λ i j d lt most. absurd (omega arith)

@@ -1,7 +1,6 @@
 -- The retry list stays sound: 1,024 calls at most, each once, with rising txids.
 use Rattle.std.proofs.Common.{◌≡◌, ℕ, zero, suc, ◌+◌, ◌-◌, ◌<◌, ◌≤◌, List, [], ◌∷◌, ◌++◌, length, length-append, length-drop, drop, Some, None, Bool}
 use Rattle.std.proofs.Common.{true, false, cond, refl, sym, ap, ◌∙◌, subst, arith, ◌==◌, ◌&&◌}
-use Rattle.std.specs.List.{remove}
 use Rattle.std.proofs.lemmas.Bool.Decides.{nat_tests}
 use Rattle.std.specs.Prelude.{◌^◌}
 use Rattle.edit_ops.specs.declared.call.Call.{Call}

@@ -1,7 +1,7 @@
 -- A rename keeps what holds of every namespace.
 use Rattle.std.proofs.Common.{◌≡◌, ℕ, ◌<◌, ◌≤◌, ◌+◌, ◌-◌, List, [], ◌∷◌, ◌++◌, length, drop, map, Bool, true, false, cond, refl, sym, ap, ◌∙◌}
 use Rattle.std.proofs.Common.{append-nil, length-append, length-drop, Option, Some, None, arith, nat_lt, ◌==◌}
-use Rattle.std.specs.Prelude.{not, ◌||◌, ◌≢◌}
+use Rattle.std.specs.Prelude.{not, ◌≢◌}
 use Rattle.std.proofs.lemmas.Bool.Decides.{nat_tests}
 use Rattle.std.specs.Ordering.{is_lt}
 use Rattle.std.specs.declared.cmp.Ordering.TheVariants.{Less}

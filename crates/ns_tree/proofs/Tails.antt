@@ -68,7 +68,7 @@ tail_under p (c ∷ cs) b g =
     stem_long = ap (λ (l : List ℕ). stem (l ++ c ∷ cs)) b.is ∙ sym (ap (λ (l : List ℕ). l ++ c ∷ cs) b.is)
 
 -- ## Moves
-drop_front : (p u : List ℕ) → drop (length p) (p ++ u) ≡ u
+pub drop_front : (p u : List ℕ) → drop (length p) (p ++ u) ≡ u
 drop_front [] u = refl
 drop_front (x ∷ xs) u = drop_front xs u
 
@@ -144,7 +144,7 @@ own_parent_apart p b = by (is_at_or_under p (parent_of p)) refl (before_last_sla
         absurd (omega (arith, long, short, one, two))
 
 -- ## The grammar of a moved path
-components_split : (c p u : List ℕ) → are_components c (p ++ 47 ∷ u) ≡ (are_components c p && are_components [] u)
+pub components_split : (c p u : List ℕ) → are_components c (p ++ 47 ∷ u) ≡ (are_components c p && are_components [] u)
 components_split c [] u = refl
 components_split c (b ∷ p) u = by (b == 47) (components_split [] p u) (components_split (c ++ b ∷ []) p u)
   where

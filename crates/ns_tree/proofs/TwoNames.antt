@@ -12,7 +12,7 @@ use Rattle.ns_tree.proofs.UnderPaths.{begins_short, prefix_cmp}
 use Rattle.ns_tree.proofs.Tails.{begins_split}
 use Rattle.std.proofs.lemmas.Bool.{and_parts, or_parts}
 
-rank_cmp : (x y : ℕ) → (x == 47) ≡ false → (y == 47) ≡ false → nat_cmp (rank_of x) (rank_of y) ≡ nat_cmp x y
+pub rank_cmp : (x y : ℕ) → (x == 47) ≡ false → (y == 47) ≡ false → nat_cmp (rank_of x) (rank_of y) ≡ nat_cmp x y
 rank_cmp x y e f = rw (e, f) (grind (arith, nat_tests))
 
 -- texts with no `/` are walked in the order of their bytes
@@ -34,7 +34,7 @@ whole_stem s (b ∷ []) h = by (b == 47) h
     by false h = h
 whole_stem s (b ∷ c ∷ bs) h = h
 
-split_under : (p q : List ℕ) → is_under p q ≡ true → q ≡ (stem p ++ 47 ∷ []) ++ part_under p q
+pub split_under : (p q : List ℕ) → is_under p q ≡ true → q ≡ (stem p ++ 47 ∷ []) ++ part_under p q
 split_under p q h =
     let size : length (stem p ++ 47 ∷ []) ≡ length (stem p) + 1 = length-append (stem p) (47 ∷ []) in
     begins_split (stem p ++ 47 ∷ []) q (whole_stem (stem p) q h) ∙ ap (λ (k : ℕ). (stem p ++ 47 ∷ []) ++ drop k q) size

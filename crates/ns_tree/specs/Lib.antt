@@ -5,3 +5,5 @@ pub mod Places
 pub mod Last
 pub mod Examples
 pub mod Marks
+pub mod Branches
+pub mod BranchSize

@@ -3,21 +3,20 @@
 #![tactic(auto)]
 
 mod appending;
+mod branch;
 mod end;
 mod examples;
 mod grammar;
-mod hints;
 mod inode;
 mod invariant;
 mod laws;
-mod moved_rows;
 mod namespace;
 mod path;
 mod path_examples;
 mod renamed_subtree;
 mod retries;
 mod retry_list;
-mod table;
+mod tree;
 mod under;
 
 pub use end::{End, EndList, LastSpace, RowList};

@@ -22,14 +22,6 @@ impl Namespace {
         ensures ok { OnOk result (self.new ≡ record self.old { pairs = renamed src.now dst.now self.old.pairs }) }
         ensures err { OnErr result (self.new ≡ self.old) }
     {
-        match self.place(src) {
-            Ok(at) => {
-                let end = self.rows.subtree_end(src, at);
-                let paths = self.rows.paths_moved(alloc, at, end, src.len(), dst)?;
-                self.rows.move_run(at, end, dst, paths);
-                Ok(())
-            }
-            Err(_) => unreachable!(),
-        }
+        self.rows.rename(alloc, src, dst)
     }
 }

@@ -1,12 +1,10 @@
 //! What lies under a path: its names, its removal, its longest path, and the rows of all.
-ghost use Rattle.std.specs.Prelude.{◌≡◌, ◌≤◌, true, false, length, IsSome, IfOk, take};
+ghost use Rattle.std.specs.Prelude.{◌≡◌, false, IsSome, IfOk};
 ghost use Rattle.ns_tree.specs.Path.{is_root};
-ghost use Rattle.ns_tree.specs.Space.{find, has_under, without, longest_under, names_under, children_of, AreInByteOrder};
-ghost use Rattle.ns_tree.specs.Places.{IsAt};
+ghost use Rattle.ns_tree.specs.Space.{find, has_under, without, longest_under, children_of, AreInByteOrder};
 
-use crate::inode::{Inode, Row};
+use crate::inode::Row;
 use crate::namespace::Namespace;
-use crate::path::{contains_slash, lies_under, part_from, stem_of};
 use base_words::{Name, OutOfMemory};
 use std::alloc::Global;
 
@@ -16,13 +14,7 @@ impl Namespace {
         requires { IsSome (find path.now self.now.pairs) }
         ensures { result ≡ has_under path.now self.now.pairs }
     {
-        match self.place(path) {
-            Ok(at) => {
-                let count = self.rows.len();
-                at + 1 < count && lies_under(path, self.rows.row(at + 1).path.as_slice())
-            }
-            Err(_) => unreachable!(),
-        }
+        self.rows.has_under(path)
     }
 
     /// Removes a path with all under it. Takes no memory.
@@ -31,13 +23,7 @@ impl Namespace {
         requires not_root { is_root path.now ≡ false }
         ensures { self.new ≡ record self.old { pairs = without path.now self.old.pairs } }
     {
-        match self.place(path) {
-            Ok(at) => {
-                let end = self.rows.subtree_end(path, at);
-                self.rows.remove_run(at, end);
-            }
-            Err(_) => unreachable!(),
-        }
+        self.rows.remove(path);
     }
 
     /// The last components of what is right under a directory, in the order of their bytes; none
@@ -46,31 +32,7 @@ impl Namespace {
         ensures names { IfOk result (λ names. names.items ≡ children_of path.now self.now.pairs) }
         ensures order { IfOk result (λ names. AreInByteOrder names.items) }
     {
-        match self.place(path) {
-            Ok(at) => match &self.rows.row(at).inode {
-                Inode::Dir { .. } => self.names_from(alloc, path, at),
-                Inode::File { .. } => Ok(Vec::new(alloc)),
-            },
-            Err(_) => Ok(Vec::new(alloc)),
-        }
-    }
-
-    fn names_from(&self, alloc: Global, path: &[u8], at: usize) -> Result<Vec<Name>, OutOfMemory>
-        requires { IsAt self.now.pairs path.now at }
-        ensures names { IfOk result (λ names. names.items ≡ names_under path.now self.now.pairs) }
-        ensures order { IfOk result (λ names. AreInByteOrder names.items) }
-    {
-        let end = self.rows.subtree_end(path, at);
-        let skip = stem_of(path).len() + 1;
-        let mut names = Vec::new(alloc);
-        for i in at + 1..end {
-            let full = self.rows.row(i).path.as_slice();
-            let below = part_from(full, skip);
-            if !contains_slash(below) {
-                names.push(Name::from_slice(alloc, below)?)?;
-            }
-        }
-        Ok(names)
+        self.rows.children(alloc, path)
     }
 
     /// The length of the longest path at or under a path. Takes no memory.
@@ -78,13 +40,7 @@ impl Namespace {
         requires { IsSome (find path.now self.now.pairs) }
         ensures { result ≡ longest_under path.now self.now.pairs }
     {
-        match self.place(path) {
-            Ok(at) => {
-                let end = self.rows.subtree_end(path, at);
-                self.rows.longest_path(at, end)
-            }
-            Err(_) => unreachable!(),
-        }
+        self.rows.longest(path)
     }
 
     /// All rows in the order of a walk, which is that of their lists of components
@@ -93,10 +49,6 @@ impl Namespace {
     pub fn walk(&self, alloc: Global) -> Result<Vec<Row>, OutOfMemory>
         ensures { IfOk result (λ rows. rows.items ≡ self.now.pairs) }
     {
-        let mut rows = Vec::new(alloc);
-        for i in 0..self.rows.len() {
-            rows.push(self.rows.row(i).copy(alloc)?)?;
-        }
-        Ok(rows)
+        self.rows.walk(alloc)
     }
 }

@@ -1,8 +1,14 @@
+pub mod ByteExampleLaws
+pub mod ByteLaws
 pub mod CrashLaws
 pub mod InputLaws
 pub mod LineLaws
 pub mod NumberLaws
+pub mod OrderLaws
 pub mod SeatLaws
 pub mod SessionLaws
 pub mod SharedLaws
+pub mod TakenLaws
+pub mod TextLaws
 pub mod TrailLaws
+pub mod UseLaws

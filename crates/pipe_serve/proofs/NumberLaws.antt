@@ -1,7 +1,8 @@
 -- The numbers of a life's calls to a node, and what a node got of them.
-use Rattle.std.proofs.Common.{ℕ, ◌≡◌, ◌+◌, ◌<◌, ◌⊎◌, inl, inr, List, [], ◌∷◌, refl, sym, ap, ◌∙◌, subst, ⊎_elim, arith}
+use Rattle.std.proofs.Common.{ℕ, ◌≡◌, ◌+◌, ◌<◌, ◌⊎◌, inl, inr, List, [], ◌∷◌, map, Option, refl, sym, ap, ◌∙◌, subst, ⊎_elim, arith}
 use Rattle.std.specs.List.{AllByRecursion}
 use Rattle.std.proofs.lemmas.Bool.{cases_eq}
+use Rattle.base_outside.specs.Whole.{TakesFront}
 use Rattle.journal_core.specs.declared.request.Request.{Request}
 use Rattle.journal_core.specs.declared.reply.Reply.{Reply}
 use Rattle.journal_core.specs.declared.heard.Heard.{Heard}
@@ -14,12 +15,12 @@ use Rattle.journal_text.specs.Reading.{reading_of}
 use Rattle.journal_text.specs.Texts.{request_text}
 use Rattle.journal_text.specs.declared.request_line.ReadRequest.TheVariants.{Read}
 use Rattle.journal_text.proofs.LineLaws.{text_read}
-use Rattle.pipe_seats.specs.Calls.{PipeView, unopened, IsReplyRead, IsReady, IsCalledAt}
+use Rattle.pipe_seats.specs.Calls.{PipeView, unopened, request_line, IsReplyRead, IsReady, IsCalledAt}
 use Rattle.pipe_seats.specs.Carried.{IsUnheard}
 use Rattle.pipe_seats.specs.Piped.{WentAs, Goes}
 use Rattle.pipe_seats.specs.Tags.{Asked, GotAs, AreWritten, IsRising, WasAsked}
 use Rattle.pipe_serve.specs.Sessions.{Answered}
-use Rattle.pipe_serve.specs.Numbers.{IsTakenAs, AreTaken, IsBegunIn, AreBegun, IsRequestOf, SessionsKeepOrder, IsMade, IsReadOn, IsReadAs, WasRead, AreNumbered, CallsAreNumbered, AreSome, LinesKeepOrder}
+use Rattle.pipe_serve.specs.Numbers.{IsTakenAs, AreTaken, IsBegunIn, AreBegun, IsRequestOf, SessionsKeepOrder, IsMade, IsReadAs, WasRead, AreNumbered, CallsAreNumbered, CallUse, asked_at, IsReadFrom, IsUse, WroteLines, CallsWriteLines, AreSome, LinesKeepOrder}
 
 -- ## One call over a pipe
 ready_same : (old new : PipeView) → IsReady old new → (new.life ≡ old.life) × (new.calls ≡ old.calls)
@@ -39,90 +40,110 @@ call_counts old new r heard h =
     let last = h.exchanged.heard_then.calls in
     ⊎_elim (λ b. inl (last ∙ b.1 ∙ from)) (λ b. inr (last ∙ b ∙ ap (λ (n : ℕ). n + 1) from)) h.exchanged.sent.begun
 
--- where it was answered, it was used, and the reply was read on a line of it
-answer_counts : (old new : PipeView) (r : Request) (reply : Reply) → IsCalledAt old new r (Answer reply) → (new.calls ≡ old.calls + 1) × IsReadOn old.life (old.calls + 1) r reply
+-- a front of its line was written
+call_wrote : (old new : PipeView) (r : Request) (heard : Heard) (h : IsCalledAt old new r heard) → TakesFront h.ready.taken new.taken (request_line old.life (old.calls + 1) r)
+call_wrote old new r heard h =
+    let from = ready_same old h.ready h.readied in
+    let line = subst (λ (l : ℕ). TakesFront h.ready.taken h.exchanged.between.taken (request_line l (h.ready.calls + 1) r)) from.0 h.exchanged.sent.front in
+    subst (λ (x : Option (List ℕ)). TakesFront h.ready.taken x (request_line old.life (old.calls + 1) r)) (sym h.exchanged.heard_then.taken)
+    (subst (λ (n : ℕ). TakesFront h.ready.taken h.exchanged.between.taken (request_line old.life (n + 1) r)) from.1 line)
+
+-- where it was answered, its number was used, and the reply was read on a line of it
+answer_counts : (old new : PipeView) (r : Request) (reply : Reply) (h : IsCalledAt old new r (Answer reply))
+    → (new.calls ≡ old.calls + 1) × IsReplyRead old.life (old.calls + 1) r reply h.ready.left new.left
 answer_counts old new r reply h =
     let from = ready_same old h.ready h.readied in
     let mid = h.exchanged.between in
     let read = h.exchanged.heard_then.read in
     let counted : mid.calls ≡ old.calls + 1 = h.exchanged.sent.counted read.0 ∙ ap (λ (n : ℕ). n + 1) from.1 in
-    let life : mid.life ≡ old.life = h.exchanged.sent.life ∙ from.0 in (
-      h.exchanged.heard_then.calls ∙ counted,
-      record {
-        before = mid.left;
-        after = new.left;
-        read = subst (λ (k : ℕ). IsReplyRead old.life k r reply mid.left new.left) counted (subst (λ (k : ℕ). IsReplyRead k mid.calls r reply mid.left new.left) life read.2);
-      },
-    )
+    let life : mid.life ≡ old.life = h.exchanged.sent.life ∙ from.0 in
+    let own = subst (λ (k : ℕ). IsReplyRead old.life k r reply mid.left new.left) counted (subst (λ (k : ℕ). IsReplyRead k mid.calls r reply mid.left new.left) life read.2) in
+    (h.exchanged.heard_then.calls ∙ counted, subst (λ (x : Option (List ℕ)). IsReplyRead old.life (old.calls + 1) r reply x new.left) h.exchanged.sent.left own)
+
+abbrev use_of : ℕ → Request → Told → PipeView → PipeView → CallUse
+use_of n r t ready new =
+    record { asked = record { number = n; request = r; told = t }; taken_then = ready.taken; taken_now = new.taken; left_then = ready.left; left_now = new.left }
 
 -- ## All calls
-abbrev Numbered : ℕ → List Record → PipeView → Type 0
-Numbered node rs old = (asked : List Asked) × AreNumbered node old.life old.calls rs asked
+abbrev Wrote : ℕ → List Record → PipeView → Type 0
+Wrote node rs old = WroteLines node old.life old.calls rs
 
-counted_one : (node m : ℕ) (r : Request) (t : Told) (rs : List Record) (old mid : PipeView) → m ≡ node → mid.calls ≡ old.calls + 1 → mid.life ≡ old.life → IsReadAs old.life (old.calls + 1) r t
-    → Numbered node rs mid → Numbered node (Call m r t ∷ rs) old
-counted_one node m r t rs old mid same count life read h = (
-  record { number = old.calls + 1; request = r; told = t } ∷ h.0,
-  record {
-    written = inl (same, record { more = h.0; are = refl; rest = subst (λ (k : ℕ). AreWritten node k rs h.0) count h.1.written });
-    read = (read, subst (λ (l : ℕ). AllByRecursion (WasRead l) h.0) life h.1.read);
-  },
-)
+counted_one : (node m : ℕ) (r : Request) (t : Told) (rs : List Record) (old mid ready : PipeView) → m ≡ node → mid.calls ≡ old.calls + 1 → mid.life ≡ old.life
+    → IsUse old.life (use_of (old.calls + 1) r t ready mid) → Wrote node rs mid → Wrote node (Call m r t ∷ rs) old
+counted_one node m r t rs old mid ready same count life is h = record {
+  uses = use_of (old.calls + 1) r t ready mid ∷ h.uses;
+  written = inl (same, record { more = map asked_at h.uses; are = refl; rest = subst (λ (k : ℕ). AreWritten node k rs (map asked_at h.uses)) count h.written });
+  each = (is, subst (λ (l : ℕ). AllByRecursion (IsUse l) h.uses) life h.each);
+}
 
 not_counted : (node m : ℕ) (r : Request) (t : Told) (rs : List Record) (old mid : PipeView) → (m ≡ node → ⊥) ⊎ IsUnheard t → mid.calls ≡ old.calls → mid.life ≡ old.life
-    → Numbered node rs mid → Numbered node (Call m r t ∷ rs) old
-not_counted node m r t rs old mid why count life h = (
-  h.0,
-  record {
-    written = inr (why, subst (λ (k : ℕ). AreWritten node k rs h.0) count h.1.written);
-    read = subst (λ (l : ℕ). AllByRecursion (WasRead l) h.0) life h.1.read;
-  },
-)
+    → Wrote node rs mid → Wrote node (Call m r t ∷ rs) old
+not_counted node m r t rs old mid why count life h = record {
+  uses = h.uses;
+  written = inr (why, subst (λ (k : ℕ). AreWritten node k rs (map asked_at h.uses)) count h.written);
+  each = subst (λ (l : ℕ). AllByRecursion (IsUse l) h.uses) life h.each;
+}
 
-unheard_one : (node m : ℕ) (r : Request) (t : Told) (rs : List Record) (old mid : PipeView) → m ≡ node → IsUnheard t → IsReadAs old.life (old.calls + 1) r t → Counts old mid
-    → mid.life ≡ old.life → Numbered node rs mid → Numbered node (Call m r t ∷ rs) old
-unheard_one node m r t rs old mid same quiet read (inl count) life h = not_counted node m r t rs old mid (inr quiet) count life h
-unheard_one node m r t rs old mid same quiet read (inr count) life h = counted_one node m r t rs old mid same count life read h
+unheard_one : (node m : ℕ) (r : Request) (t : Told) (rs : List Record) (old mid ready : PipeView) → m ≡ node → IsUnheard t → IsUse old.life (use_of (old.calls + 1) r t ready mid) → Counts old mid
+    → mid.life ≡ old.life → Wrote node rs mid → Wrote node (Call m r t ∷ rs) old
+unheard_one node m r t rs old mid ready same quiet is (inl count) life h = not_counted node m r t rs old mid (inr quiet) count life h
+unheard_one node m r t rs old mid ready same quiet is (inr count) life h = counted_one node m r t rs old mid ready same count life is h
 
-one_call : (node m : ℕ) (r : Request) (t : Told) (rs : List Record) (old mid : PipeView) → m ≡ node → WentAs r t old mid → Numbered node rs mid → Numbered node (Call m r t ∷ rs) old
+one_call : (node m : ℕ) (r : Request) (t : Told) (rs : List Record) (old mid : PipeView) → m ≡ node → WentAs r t old mid → Wrote node rs mid → Wrote node (Call m r t ∷ rs) old
 one_call node m r (told.Reply reply) rs old mid same went h =
     let a = answer_counts old mid r reply went in
-    counted_one node m r (told.Reply reply) rs old mid same a.0 (call_life old mid r (Answer reply) went) a.1 h
+    counted_one node m r (told.Reply reply) rs old mid went.ready same a.0 (call_life old mid r (Answer reply) went) (record { wrote = call_wrote old mid r (Answer reply) went; read = a.1 }) h
 one_call node m r told.Silent rs old mid same went h =
-    unheard_one node m r told.Silent rs old mid same tt tt (call_counts old mid r Silent went) (call_life old mid r Silent went) h
+    unheard_one node m r told.Silent rs old mid went.ready same tt (record { wrote = call_wrote old mid r Silent went; read = tt }) (call_counts old mid r Silent went) (call_life old mid r Silent went) h
 one_call node m r told.Muted rs old mid same went h =
-    unheard_one node m r told.Muted rs old mid same tt tt (call_counts old mid r went.0 went.1) (call_life old mid r went.0 went.1) h
+    unheard_one node m r told.Muted rs old mid went.1.ready same tt (record { wrote = call_wrote old mid r went.0 went.1; read = tt }) (call_counts old mid r went.0 went.1)
+    (call_life old mid r went.0 went.1) h
 one_call node m r told.Dropped rs old mid same went h =
     not_counted node m r told.Dropped rs old mid (inr tt) (ap (λ (p : PipeView). p.calls) went) (ap (λ (p : PipeView). p.life) went) h
 
-numbered : (node : ℕ) (rs : List Record) (old new : PipeView) → AllByRecursion IsMade rs → Goes node rs old new → Numbered node rs old
-numbered node [] old new made goes = ([], record { written = refl; read = tt })
-numbered node (Call m r t ∷ rs) old new made goes =
-    let rest = numbered node rs goes.0 new made.1 goes.2 in
+wrote_on : (node : ℕ) (rs : List Record) (old new : PipeView) → AllByRecursion IsMade rs → Goes node rs old new → Wrote node rs old
+wrote_on node [] old new made goes = record { uses = []; written = refl; each = tt }
+wrote_on node (Call m r t ∷ rs) old new made goes =
+    let rest = wrote_on node rs goes.0 new made.1 goes.2 in
     ⊎_elim (λ same. one_call node m r t rs old goes.0 same (goes.1.here same) rest)
     (λ ne. let e = goes.1.elsewhere ne in not_counted node m r t rs old goes.0 (inl ne) (ap (λ (p : PipeView). p.calls) e) (ap (λ (p : PipeView). p.life) e) rest)
     (cases_eq m node)
-numbered node (Outcome text ∷ rs) old new made goes =
-    let rest = numbered node rs goes.0 new made.1 goes.2 in
-    let e : goes.0 ≡ old = goes.1.elsewhere (λ x. x) in (
-      rest.0,
-      record {
-        written = subst (λ (p : PipeView). AreWritten node p.calls rs rest.0) e rest.1.written;
-        read = subst (λ (p : PipeView). AllByRecursion (WasRead p.life) rest.0) e rest.1.read;
-      },
-    )
-numbered node (Late m r ∷ rs) old new made goes = absurd made.0
-numbered node (Operator m ask done ∷ rs) old new made goes = absurd made.0
+wrote_on node (Outcome text ∷ rs) old new made goes =
+    let rest = wrote_on node rs goes.0 new made.1 goes.2 in
+    let e : goes.0 ≡ old = goes.1.elsewhere (λ x. x) in
+    let h : Wrote node rs old = subst (Wrote node rs) e rest in
+    record { uses = h.uses; written = h.written; each = h.each }
+wrote_on node (Late m r ∷ rs) old new made goes = absurd made.0
+wrote_on node (Operator m ask done ∷ rs) old new made goes = absurd made.0
+
+pub all_wrote : CallsWriteLines
+all_wrote node life rs pipe made goes = wrote_on node rs (unopened life) pipe made goes
+
+-- ## By their numbers
+read_by : (life n : ℕ) (r : Request) (t : Told) (before after : Option (List ℕ)) → IsReadFrom life n r t before after → IsReadAs life n r t
+read_by life n r (told.Reply reply) before after h = record { before = before; after = after; read = h }
+read_by life n r told.Dropped before after h = tt
+read_by life n r told.Muted before after h = tt
+read_by life n r told.Silent before after h = tt
+
+were_read : (life : ℕ) (uses : List CallUse) → AllByRecursion (IsUse life) uses → AllByRecursion (WasRead life) (map asked_at uses)
+were_read life [] h = tt
+were_read life (u ∷ uses) h = (read_by life u.asked.number u.asked.request u.asked.told u.left_then u.left_now h.0.read, were_read life uses h.1)
+
+pub numbered_by : (node life n : ℕ) (rs : List Record) (uses : List CallUse) → AreWritten node n rs (map asked_at uses) → AllByRecursion (IsUse life) uses → AreNumbered node life n rs (map asked_at uses)
+numbered_by node life n rs uses written each = record { written = written; read = were_read life uses each }
 
 pub all_numbered : CallsAreNumbered
-all_numbered node life rs pipe made goes = numbered node rs (unopened life) pipe made goes
+all_numbered node life rs pipe made goes =
+    let h = all_wrote node life rs pipe made goes in
+    (map asked_at h.uses, numbered_by node life 0 rs h.uses h.written h.each)
 
 -- ## What a node got
 later : (a : Asked) (asked : List Asked) (gots : List GotAs) → AllByRecursion (WasAsked asked) gots → AllByRecursion (WasAsked (a ∷ asked)) gots
 later a asked [] all = tt
 later a asked (g ∷ gots) all = (inr all.0, later a asked gots all.1)
 
-were_asked : (asked : List Asked) (gots : List GotAs) → AreSome gots asked → AllByRecursion (WasAsked asked) gots
+pub were_asked : (asked : List Asked) (gots : List GotAs) → AreSome gots asked → AllByRecursion (WasAsked asked) gots
 were_asked asked [] some = tt
 were_asked [] (g ∷ gots) some = absurd some
 were_asked (a ∷ asked) (g ∷ gots) (inl h) = (inl (h.0, h.1), later a asked gots (were_asked asked gots h.2))

@@ -3,3 +3,5 @@ pub mod Serving
 pub mod Crashes
 pub mod Trails
 pub mod Numbers
+pub mod Bytes
+pub mod ByteExamples

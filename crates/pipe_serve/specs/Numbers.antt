@@ -1,6 +1,7 @@
 -- The numbers of a life's calls to a node, as its pipe saw them, and what a node got of them.
-use Rattle.std.specs.Prelude.{ℕ, ◌≡◌, ◌⊎◌, List, [], ◌∷◌, Option}
+use Rattle.std.specs.Prelude.{ℕ, ◌≡◌, ◌⊎◌, List, [], ◌∷◌, map, Option}
 use Rattle.std.specs.List.{AllByRecursion}
+use Rattle.base_outside.specs.Whole.{TakesFront}
 use Rattle.journal_core.specs.declared.request.Request.{Request}
 use Rattle.journal_core.specs.declared.reply.Reply.{Reply}
 use Rattle.journal_history.specs.declared.record.Record.{Record}
@@ -12,7 +13,7 @@ use Rattle.journal_text.specs.Lines.{IsRequest}
 use Rattle.journal_text.specs.Reading.{reading_of}
 use Rattle.journal_text.specs.Texts.{request_text}
 use Rattle.journal_text.specs.declared.request_line.ReadRequest.TheVariants.{Read}
-use Rattle.pipe_seats.specs.Calls.{PipeView, unopened, IsReplyRead}
+use Rattle.pipe_seats.specs.Calls.{PipeView, unopened, request_line, IsReplyRead}
 use Rattle.pipe_seats.specs.Piped.{Goes}
 use Rattle.pipe_seats.specs.Tags.{Asked, GotAs, AreWritten, WasHeard, KeepOrder}
 use Rattle.pipe_serve.specs.Sessions.{Answered}
@@ -51,6 +52,42 @@ abbrev pub CallsAreNumbered : Type 0
 CallsAreNumbered =
     (node life : ℕ) (rs : List Record) (pipe : PipeView) → AllByRecursion IsMade rs → Goes node rs (unopened life) pipe
     → (asked : List Asked) × AreNumbered node life 0 rs asked
+
+-- ## At the ends of its pipe
+-- a call whose line was begun: what had been written to the pipe before it and after it, and what
+-- was still to be read of it then and afterwards, where that is told
+pub record CallUse : Type 0 where
+  pub asked : Asked
+  pub taken_then : Option (List ℕ)
+  pub taken_now : Option (List ℕ)
+  pub left_then : Option (List ℕ)
+  pub left_now : Option (List ℕ)
+
+abbrev pub asked_at : CallUse → Asked
+asked_at u = u.asked
+
+-- the line of what was heard was read, behind lines that answer other calls
+abbrev pub IsReadFrom : ℕ → ℕ → Request → Told → Option (List ℕ) → Option (List ℕ) → Type 0
+IsReadFrom life n r (told.Reply reply) before after = IsReplyRead life n r reply before after
+IsReadFrom life n r told.Dropped before after = Unit {0}
+IsReadFrom life n r told.Muted before after = Unit {0}
+IsReadFrom life n r told.Silent before after = Unit {0}
+
+-- of its line a front was written
+pub record IsUse (life : ℕ) (u : CallUse) : Type 0 where
+  pub wrote : TakesFront u.taken_then u.taken_now (request_line life u.asked.number u.asked.request)
+  pub read : IsReadFrom life u.asked.number u.asked.request u.asked.told u.left_then u.left_now
+
+-- of each call whose line was begun a front was written, numbered in their order, and what was heard
+-- was read
+pub record WroteLines (node life n : ℕ) (rs : List Record) : Type 0 where
+  pub uses : List CallUse
+  pub written : AreWritten node n rs (map asked_at uses)
+  pub each : AllByRecursion (IsUse life) uses
+
+-- so it is in each life over a pipe
+abbrev pub CallsWriteLines : Type 0
+CallsWriteLines = (node life : ℕ) (rs : List Record) (pipe : PipeView) → AllByRecursion IsMade rs → Goes node rs (unopened life) pipe → WroteLines node life 0 rs
 
 -- ## What a node got
 -- these are some of the calls that were written, in their order

@@ -2,6 +2,7 @@
 //! node behind a gate. Laws: how the numbers of a life's calls go with the lines that a node takes.
 #![tactic(auto)]
 
+mod byte_examples;
 mod client_cell;
 mod client_pipes;
 mod clients;
@@ -16,9 +17,13 @@ mod session;
 mod session_end;
 mod shared;
 
+pub use byte_examples::{a_line_behind_a_cut_one, bytes_are_kept};
 pub use client_pipes::ClientPipes;
 pub use clients::serve_clients;
-pub use laws::{calls_are_numbered, lines_keep_order, sessions_keep_order};
+pub use laws::{
+    bytes_keep_order, calls_are_numbered, calls_write_lines, lines_keep_order, sessions_keep_order,
+    sessions_take_lines, uses_are_lives,
+};
 pub use ports::Ports;
 pub use served::{ServeEnd, Served};
 pub use session::serve_session;

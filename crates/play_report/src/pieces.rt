@@ -1,9 +1,10 @@
 //! The smallest parts of a text, given to what takes it.
 ghost use Rattle.std.specs.Prelude.{◌≡◌, ◌<◌, ◌++◌, ◌∷◌, [], decimal};
-ghost use Rattle.base_words.specs.Hex.{hex_digit, hex_text};
+ghost use Rattle.base_words.specs.Hex.{hex_text};
 ghost use Rattle.journal_text.specs.Texts.{numbers_text, bodies_text};
 
 use crate::taker::Taker;
+use base_words::hex_digit;
 use itoa::write_digits;
 use journal_core::BodyList;
 
@@ -33,18 +34,6 @@ pub(crate) fn put_numbers<T: Taker>(out: &mut T, numbers: &[u64])
 {
     for number in numbers {
         put_spaced(out, *number);
-    }
-}
-
-/// A digit of base 16, in lower case.
-fn hex_digit(digit: u8) -> u8
-    requires { digit < 16 }
-    ensures { result ≡ hex_digit digit }
-{
-    if digit < 10 {
-        b'0' + digit
-    } else {
-        b'a' - 10 + digit
     }
 }
 

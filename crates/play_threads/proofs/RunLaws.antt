@@ -78,6 +78,12 @@ may_act named shown items columns callers n ts jobs e long is count some may i d
     ∙ fresh_at 0 callers ts i (shown d.1) (omega (arith, b, long)) in
     subst (λ j. MayAct named items ts j.0 (shown j.1)) (sym job) (subst (λ z. MayAct named items ts (0 + i) z) (sym own) (fresh_act named items (0 + i) n ts count some may))
 
+pub job_is : {S : Type 0} (columns : List S) (jobs : List (ℕ × S)) → jobs ≡ numbered_from 0 columns → (i : ℕ) (d : ℕ × S) → i < length jobs → (get_or jobs i d).0 ≡ i
+job_is columns jobs is i d l =
+    let m : length jobs ≡ length columns = ap length is ∙ numbered_length 0 columns in
+    let same : 0 + i ≡ i = omega arith in
+    ap (λ z. (get_or z i d).0) is ∙ ap (λ j. j.0) (numbered_at 0 columns i d (omega (arith, l, m))) ∙ same
+
 -- ## What all leave
 -- nothing is asked of what the operator holds at last
 without_last : {named : Bool} {n operator : ℕ} {lines : List Line} {ts : List TableId} {seats : List Seat} {rs : List Record} {plan : List Mark} {last : Option LastSpace}
@@ -92,44 +98,49 @@ without_last {named} {n} {operator} {lines} {ts} {seats} {rs} {plan} {last} h =
       within = h.within;
     }
 
-module _ {S E : Type 0} (named : Bool) (shown : S → List Seat) (n operator : ℕ) (lines : List Line) (ts : List TableId) (jobs : List (ℕ × S))
-    (columns : List S) (lefts : List (Result (S × List Record × List Mark × Option LastSpace) E))
+-- by other names of what it is of
+pub leaves_as : {S E : Type 0} (shown : S → List Seat) (left : Result (S × List Record × List Mark × Option LastSpace) E) {a b : Bool} {n m o p c d : ℕ}
+    {ls ks : List Line} {ts us : List TableId} → a ≡ b → n ≡ m → o ≡ p → c ≡ d → ls ≡ ks → ts ≡ us
+    → IfOk left (λ l. CallerLeaves a n o c ls ts (shown l.0) l.1 l.2 l.3) → IfOk left (λ l. CallerLeaves b m p d ks us (shown l.0) l.1 l.2 l.3)
+leaves_as shown left ea en eo ec el et =
+    subst (λ (x : Bool × ℕ × ℕ × ℕ × List Line × List TableId). IfOk left (λ l. CallerLeaves x.0 x.1 x.2 x.3 x.4 x.5 (shown l.0) l.1 l.2 l.3))
+    (λ i. (ea i, en i, eo i, ec i, el i, et i))
+
+-- of as many callers
+module _ {S E : Type 0} (named : Bool) (shown : S → List Seat) (n operator callers : ℕ) (lines : List Line) (ts : List TableId)
+    (lefts : List (Result (S × List Record × List Mark × Option LastSpace) E))
     (oks : List (S × List Record × List Mark × Option LastSpace))
-    (is : jobs ≡ numbered_from 0 columns) (count : length lefts ≡ length jobs) (ok : lefts ≡ map (λ o. Ok o) oks)
-    (each : (i : ℕ) (d : ℕ × S) (e : Result (S × List Record × List Mark × Option LastSpace) E) → i < length jobs
-    → IfOk (get_or lefts i e) (λ left. CallerLeaves named n operator (get_or jobs i d).0 lines ts (shown left.0) left.1 left.2 left.3)) where
-  pub oks_long : length oks ≡ length columns
-  oks_long = sym (length-map oks (λ o. Ok o)) ∙ sym (ap length ok) ∙ count ∙ ap length is ∙ numbered_length 0 columns
+    (count : length lefts ≡ callers) (ok : lefts ≡ map (λ o. Ok o) oks)
+    (each : (i : ℕ) (e : Result (S × List Record × List Mark × Option LastSpace) E) → i < length lefts
+    → IfOk (get_or lefts i e) (λ left. CallerLeaves named n operator i lines ts (shown left.0) left.1 left.2 left.3)) where
+  oks_long : length oks ≡ callers
+  oks_long = sym (length-map oks (λ o. Ok o)) ∙ sym (ap length ok) ∙ count
 
   leaves : (c : ℕ) (o : S × List Record × List Mark × Option LastSpace) → c < length oks
       → CallerLeaves named n operator c lines ts (shown (get_or oks c o).0) (get_or oks c o).1 (get_or oks c o).2 (get_or oks c o).3
   leaves c o l =
-      let m = oks_long in
-      let k : length jobs ≡ length columns = ap length is ∙ numbered_length 0 columns in
-      let d : ℕ × S = (0, o.0) in
-      let job : (get_or jobs c d).0 ≡ 0 + c = ap (λ z. (get_or z c d).0) is ∙ ap (λ j. j.0) (numbered_at 0 columns c d (omega (arith, l, m))) in
+      let m : length lefts ≡ length oks = ap length ok ∙ length-map oks (λ o. Ok o) in
       let here : get_or lefts c (Ok o) ≡ Ok (get_or oks c o) = ap (λ z. get_or z c (Ok o)) ok ∙ get_or-map (λ x. Ok x) oks c o in
-      let done : IfOk {E = E} (Ok (get_or oks c o)) (λ left. CallerLeaves named n operator (get_or jobs c d).0 lines ts (shown left.0) left.1 left.2 left.3) =
-      subst (λ r. IfOk r (λ left. CallerLeaves named n operator (get_or jobs c d).0 lines ts (shown left.0) left.1 left.2 left.3)) here (each c d (Ok o) (omega (arith, l, m, k))) in
-      let same : 0 + c ≡ c = omega arith in
-      subst (λ j. CallerLeaves named n operator j lines ts (shown (get_or oks c o).0) (get_or oks c o).1 (get_or oks c o).2 (get_or oks c o).3) (job ∙ same) done
+      let done : IfOk {E = E} (Ok (get_or oks c o)) (λ left. CallerLeaves named n operator c lines ts (shown left.0) left.1 left.2 left.3) =
+      subst (λ r. IfOk r (λ left. CallerLeaves named n operator c lines ts (shown left.0) left.1 left.2 left.3)) here (each c (Ok o) (omega (arith, l, m))) in
+      done
 
   module _ (seats : List S) (records : List (List Record)) (plans : List (List Mark)) (lasts : List (Option LastSpace))
       (seats_are : seats ≡ map (λ o. o.0) oks) (records_are : records ≡ map (λ o. o.1) oks) (plans_are : plans ≡ map (λ o. o.2) oks)
       (lasts_are : lasts ≡ map (λ o. o.3) oks) where
-    pub seats_long : length seats ≡ length columns
+    pub seats_long : length seats ≡ callers
     seats_long = ap length seats_are ∙ length-map oks (λ o. o.0) ∙ oks_long
 
-    pub records_long : length records ≡ length columns
+    pub records_long : length records ≡ callers
     records_long = ap length records_are ∙ length-map oks (λ o. o.1) ∙ oks_long
 
-    pub plans_long : length plans ≡ length columns
+    pub plans_long : length plans ≡ callers
     plans_long = ap length plans_are ∙ length-map oks (λ o. o.2) ∙ oks_long
 
-    pub lasts_long : length lasts ≡ length columns
+    pub lasts_long : length lasts ≡ callers
     lasts_long = ap length lasts_are ∙ length-map oks (λ o. o.3) ∙ oks_long
 
-    pub leaves_at : (c : ℕ) (d : List Seat) → c < length columns → CallerLeaves named n operator c lines ts (get_or (map shown seats) c d)
+    pub leaves_at : (c : ℕ) (d : List Seat) → c < callers → CallerLeaves named n operator c lines ts (get_or (map shown seats) c d)
         (get_or records c []) (get_or plans c []) (get_or lasts c None)
     leaves_at c d l =
         let m = oks_long in
@@ -158,7 +169,7 @@ module _ {S E : Type 0} (named : Bool) (shown : S → List Seat) (n operator : �
         record { gates = s.gates; callers = s.callers }
 
     pub gathered : (m : Mesh) (ends : List End) (rest : List (List Mark)) (held : List (Option LastSpace)) → operator ≡ count_actors lines
-        → length columns ≡ operator + 1 → m.nodes ≡ n → length m.histories ≡ n → m.records ≡ records → rest ≡ take (length plans - 1) plans
+        → callers ≡ operator + 1 → m.nodes ≡ n → length m.histories ≡ n → m.records ≡ records → rest ≡ take (length plans - 1) plans
         → m.plan ≡ rest
         → map (λ e. e.name) ends ≡ names_in lines → held ≡ take (length lasts - 1) lasts → map (λ e. e.last) ends ≡ held
         → ((d : Seat) → AllAt (λ i h. IsLeft (row_at i d (map shown seats)) h) m.histories) → AreGathered named n lines m ends

@@ -1,5 +1,5 @@
 -- What the threads of all callers and the gates of all nodes leave, side by side.
-use Rattle.std.specs.Prelude.{◌≡◌, ℕ, ◌+◌, ◌<◌, ◌≤◌, ◌==◌, Bool, true, suc, Option, None, List, [], ◌∷◌, length, map, slice_index_or}
+use Rattle.std.specs.Prelude.{◌≡◌, ℕ, ◌+◌, ◌<◌, ◌≤◌, ◌==◌, Bool, true, suc, Option, None, List, [], ◌∷◌, length, map, replicate, slice_index_or}
 use Rattle.std.specs.List.{All}
 use Rattle.atomic_table.specs.Seated.{TableId}
 use Rattle.journal_history.specs.declared.record.Record.{Record}
@@ -26,6 +26,14 @@ pub record MayAct (named : Bool) (lines : List ScriptLine) (tables : List TableI
   pub gates : length tables ≡ length seats
   pub seated : AreSeated caller tables (new_log (length seats) true) seats
   pub may : All (MayCome named (length seats)) lines
+
+-- the gates of all nodes, with so many seats made at each, and a job for each caller
+pub record AreOpened (nodes callers : ℕ) (tables : List TableId) (seats : List ℕ) (keepers : List TableId) (made : List ℕ) (jobs : ℕ) : Type 0 where
+  pub count : length tables ≡ nodes
+  pub keeps : keepers ≡ tables
+  pub seats_are : seats ≡ replicate nodes callers
+  pub made_are : made ≡ replicate nodes callers
+  pub each : jobs ≡ callers
 
 -- Its record and its marks are as its lines ask, by the answers that it heard; the record goes by
 -- the marks, and its seats have seen of the caller just what its record says. An actor with names

@@ -40,7 +40,7 @@ fn ask<R: Wait, C: NodeGate>(
 
 /// A request reaches the node behind the gate.
 #[tactic(auto, using(crate::proofs::SeatLaws::calls))]
-fn ask_request<R: Wait, C: NodeGate>(
+pub fn ask_request<R: Wait, C: NodeGate>(
     rt: &R,
     gate: &Gate<C>,
     seat: &mut GateSeat<C>,

@@ -23,10 +23,10 @@ use std::sync::Wait;
 
 /// What a thread leaves: its seats, its record and its marks, and what an actor with names holds at
 /// last.
-pub(crate) type Left<C> = (Vec<GateSeat<C>>, RecordList, ActorPlan, Option<LastSpace>);
+pub type Left<C> = (Vec<GateSeat<C>>, RecordList, ActorPlan, Option<LastSpace>);
 
 /// Whether the caller is the operator.
-fn is_operator(caller: u32, operator: u32) -> bool
+pub fn is_operator(caller: u32, operator: u32) -> bool
     ensures { result ≡ (caller == operator) }
 {
     caller == operator
@@ -57,7 +57,7 @@ fn do_lines<K: Actors, R: Wait, C: NodeGate, G: Pass>(
 
 /// The lines of one caller at these seats, which are its own and before their first call.
 /// `OutOfMemory` where memory was lacking, here or at a node.
-pub(crate) fn take_lines<K: Actors, R: Wait, C: NodeGate, G: Pass>(
+pub fn take_lines<K: Actors, R: Wait, C: NodeGate, G: Pass>(
     rt: &R,
     alloc: Global,
     named: bool,

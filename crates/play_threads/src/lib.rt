@@ -49,13 +49,15 @@ mod threads;
 
 pub use actor_lines::act_alone;
 pub use actors::Actors;
-pub use at_gates::GateSeats;
+pub use at_gates::{GateSeats, ask_request};
 pub use board::{GateRule, Stage, View};
+pub use caller_lines::{Left, is_operator, take_lines};
 pub use gate::{Board, Gate, GateSeat, Holder, Keeper, Steps};
 pub use gated_node::{GatedNode, NodeGate};
 pub use gates::{Opened, close_gates, open_gates};
 pub use pass::{FreePass, Pass};
-pub use run::{gathered_lists_agree, run_on};
+pub use run::{Begun, assemble, begin_run, gathered_lists_agree, run_on};
+pub use threads::Job;
 
 /// There was no memory.
 pub type OutOfMemory = AllocError;

@@ -22,7 +22,7 @@ use std::thread;
 use std::thread::Threads;
 
 /// What a thread is given: its caller's number, and its seats, one at each gate.
-pub(crate) type Job<N> = (u32, Vec<GateSeat<GatedNode<N>>>);
+pub type Job<N> = (u32, Vec<GateSeat<GatedNode<N>>>);
 
 /// Each caller's seats, with its number.
 pub(crate) fn jobs_of<N: CutNode + Drop>(

@@ -1,5 +1,5 @@
 -- Where the input is right and nothing fails a command is done, or memory ran out.
-use Rattle.std.proofs.Common.{◌≡◌, ℕ, ◌<◌, ◌≤◌, List, Option, Some, None, Bool, true, false, ◌==◌, refl, sym, ap, subst, ◌∙◌, arith, inl, inr, ◌⊎◌, length}
+use Rattle.std.proofs.Common.{◌≡◌, ℕ, ◌<◌, ◌≤◌, List, Option, Some, None, Bool, true, false, ◌==◌, refl, sym, ap, subst, ◌∙◌, arith, inl, inr, ◌⊎◌, ⊎_elim, length}
 use Rattle.std.specs.Prelude.{if◌then◌else◌, Result, Ok, Err, IfOk, IsErr}
 use Rattle.base_outside.specs.Faults.{Rose}
 use Rattle.journal_core.specs.declared.segment.Segment.{Segment}
@@ -25,8 +25,9 @@ use Rattle.cli_commands.specs.declared.tool.Tool.{Tool}
 use Rattle.cli_commands.specs.Uses.{SourceUse, SinkUse, DiskUse}
 use Rattle.cli_commands.specs.Faults.{status_of}
 use Rattle.cli_commands.specs.Told.{IsToldAs, TellsFault, TellsText, Told, wrote_text, told_fault}
-use Rattle.cli_commands.specs.Commands.{Asked, asked_in, play, run, mirror, boot, node, fsck, judge, gen, list, AskFor}
+use Rattle.cli_commands.specs.Commands.{Asked, asked_in, play, run, piped, mirror, boot, node, fsck, judge, gen, list, AskFor}
 use Rattle.qj_cli.specs.Sound.{AreSound, ComeOf}
+use Rattle.qj_cli.specs.Pipes.{pipe_fault_of, first_of, pipe_line_of, IsPipedFault, Pipes}
 use Rattle.qj_cli.specs.Plays.{longest_script, AreTold, IsReadWhole, IsTooLong, IsReadingFault, IsPlayFault, Plays}
 use Rattle.qj_cli.specs.Report.{HasLongReport}
 use Rattle.cli_commands.specs.Listing.{longest_file, IsTooLong as IsTooLongFile, file_under, IsFileFault, OfFile, GivesListing, IsListFault}
@@ -37,10 +38,11 @@ use Rattle.qj_cli.specs.Boots.{IsBooted, HasLongBoot, IsBootFault, Boots}
 use Rattle.qj_cli.specs.Mirrors.{Mirrors}
 use Rattle.play_report.specs.Limit.{longest_report}
 use Rattle.qj_cli.specs.Judging.{IsLongReport, agreeing, disagreeing, IsJudgeFault, JudgesReport}
-use Rattle.qj_cli.specs.Does.{Does, Refuses, NeedsThreads}
-use Rattle.qj_cli.specs.Complete.{HasText, HasScript, HasNames, HasShort, HasRequests, HasNode, HasFile, NothingFails, IsComplete}
+use Rattle.qj_cli.specs.Does.{Does, Refuses, NeedsThreads, ByThreads, ReadsNone}
+use Rattle.qj_cli.specs.Complete.{HasText, HasScript, HasPiped, HasNames, HasShort, HasRequests, HasNode, HasFile, NothingFails, IsComplete}
 use Rattle.cli_commands.proofs.OneListing.{in_grammar}
-use Rattle.cli_commands.proofs.WordLaws.{one_command}
+use Rattle.cli_commands.specs.Usage.{asks_piped}
+use Rattle.cli_commands.proofs.WordLaws.{one_command, pipes_asked}
 use Rattle.qj_cli.proofs.RequestLaws.{no_bad_next, no_long_next}
 
 -- it is done, or memory ran out
@@ -108,6 +110,33 @@ module _ (Leaves : ScriptView → Mesh → List End → Type 0) (source : Source
   play_done : (sink : SinkUse) (s : Status) → (Rose sink.faults_before sink.faults_now → ⊥) → Plays Leaves source sink s → Done s
   play_done sink s writes (wrote_text good bytes gives tells) = text_done good s bytes sink gives.good_is writes tells
   play_done sink s writes (told_fault of is tells) = play_fault of s sink is tells
+
+-- ## A play through pipes
+module _ (source : SourceUse) (right : HasPiped source) (reads : Rose source.faults_before source.faults_now → ⊥) (no_rule : ScriptBreaksNoRule) where
+  carried : (read : List ℕ) → IsReadWhole source read → pipe_fault_of read ≡ None
+  carried read whole =
+      let same : read ≡ right.has.has.bytes = same_bytes source right.has.has no_rule read whole.told in
+      ap (λ o. first_of o (fault_of read)) (ap pipe_line_of same ∙ right.carried) ∙ unbroken source right.has.has no_rule read whole
+
+  piped_fault : (of : CommandFault) (s : Status) (sink : SinkUse) → IsPipedFault source of → TellsFault of s sink → Done s
+  piped_fault (fault.Usage place) s sink is tells = absurd is
+  piped_fault (fault.BadScript line rule) s sink is tells = let none : pipe_fault_of is.0 ≡ None = carried is.0 is.1 in let some = is.2 in absurd (cc (none, some))
+  piped_fault (fault.BadReport line rule) s sink is tells = absurd is
+  piped_fault fault.NoFile s sink is tells = absurd is
+  piped_fault (fault.BadBytes place cause) s sink is tells = absurd is
+  piped_fault (fault.BadImage place cause) s sink is tells = absurd is
+  piped_fault (fault.BadFile name) s sink is tells = absurd is
+  piped_fault fault.NotJson s sink is tells = absurd is
+  piped_fault (fault.BadEntry index) s sink is tells = absurd is
+  piped_fault (fault.TooManyEntries number) s sink is tells = absurd is
+  piped_fault (fault.Limit number) s sink is tells = absurd (limit_none AreSound source right.has reads no_rule number is)
+  piped_fault fault.ReadFault s sink is tells = absurd (reads is)
+  piped_fault fault.DiskFault s sink is tells = absurd is
+  piped_fault fault.OutOfMemory s sink is tells = memory_told tells.told s tells.told_as tells.status_is
+
+  piped_done : (sink : SinkUse) (s : Status) → (Rose sink.faults_before sink.faults_now → ⊥) → Pipes source sink s → Done s
+  piped_done sink s writes (wrote_text good bytes gives tells) = text_done good s bytes sink gives.report.good_is writes tells
+  piped_done sink s writes (told_fault of is tells) = piped_fault of s sink is tells
 
 -- ## A mirror of a play's nodes
 module _ (source : SourceUse) (right : HasText source) (reads : Rose source.faults_before source.faults_now → ⊥) (no_rule : ScriptBreaksNoRule) where
@@ -379,6 +408,7 @@ pub completes : {D : Type 0} (asked : Asked) (source : SourceUse) (sink : SinkUs
     → Does asked source sink disk s → IsComplete asked source sink disk s
 completes play source sink disk s no_rule does = λ right nothing. play_done ComeOf source right nothing.reads no_rule sink s nothing.writes does.0
 completes run source sink disk s no_rule does = λ right nothing. play_done AreSound source right nothing.reads no_rule sink s nothing.writes does.0
+completes piped source sink disk s no_rule does = λ right nothing. piped_done source right nothing.reads no_rule sink s nothing.writes does.0
 completes mirror source sink disk s no_rule does = λ right nothing. mirror_done source right nothing.reads no_rule sink s nothing.writes does.0
 completes boot source sink disk s no_rule does = λ right nothing. boot_done source right nothing.reads no_rule sink s nothing.writes does.0
 completes node source sink disk s no_rule does =
@@ -402,17 +432,50 @@ pub does_as : {D : Type 0} (is by : Command) (source : SourceUse) (sink : SinkUs
     → Does (asked_in by) source sink disk s → Does (asked_in is) source sink disk s
 does_as is by source sink disk s e does = subst (λ (c : Command). Does (asked_in c) source sink disk s) (sym e) does
 
--- only `run` needs threads
-pub needs_run : (asked : Asked) → NeedsThreads asked → asked ≡ run
-needs_run play n = absurd n
-needs_run run n = refl
-needs_run mirror n = absurd n
-needs_run boot n = absurd n
-needs_run node n = absurd n
-needs_run fsck n = absurd n
-needs_run judge n = absurd n
-needs_run (gen number edits nodes) n = absurd n
-needs_run (list of name) n = absurd n
+-- `run` and `piped` need threads
+by_threads : (asked : Asked) → NeedsThreads asked → (asked ≡ run) ⊎ (asked ≡ piped)
+by_threads play n = absurd n
+by_threads run n = inl refl
+by_threads piped n = inr refl
+by_threads mirror n = absurd n
+by_threads boot n = absurd n
+by_threads node n = absurd n
+by_threads fsck n = absurd n
+by_threads judge n = absurd n
+by_threads (gen number edits nodes) n = absurd n
+by_threads (list of name) n = absurd n
+
+-- the words that need threads ask for pipes, or else for `run`
+pub asks_run : (words : List (List ℕ)) (asked : Asked) → NeedsThreads asked → AskFor words asked → asks_piped words ≡ false → AskFor words run
+asks_run words asked needs is other = ⊎_elim (λ (e : asked ≡ run). subst (AskFor words) e is)
+    (λ (e : asked ≡ piped). let yes : asks_piped words ≡ true = pipes_asked words (subst (AskFor words) e is) in absurd (cc (other, yes))) (by_threads asked needs)
+
+-- a command by threads leaves the disk alone
+pub does_by_threads : {D : Type 0} (asked : Asked) (source : SourceUse) (sink : SinkUse) (disk : DiskUse D) (s : Status) → ByThreads asked source sink s → disk.now ≡ disk.before
+    → Does asked source sink disk s
+does_by_threads play source sink disk s is e = absurd is
+does_by_threads run source sink disk s is e = (is, e)
+does_by_threads piped source sink disk s is e = (is, e)
+does_by_threads mirror source sink disk s is e = absurd is
+does_by_threads boot source sink disk s is e = absurd is
+does_by_threads node source sink disk s is e = absurd is
+does_by_threads fsck source sink disk s is e = absurd is
+does_by_threads judge source sink disk s is e = absurd is
+does_by_threads (gen number edits nodes) source sink disk s is e = absurd is
+does_by_threads (list of name) source sink disk s is e = absurd is
+
+-- and reads its source
+pub reads_some : (asked : Asked) → NeedsThreads asked → ReadsNone asked → ⊥
+reads_some play needs none = absurd needs
+reads_some run needs none = none
+reads_some piped needs none = none
+reads_some mirror needs none = absurd needs
+reads_some boot needs none = absurd needs
+reads_some node needs none = absurd needs
+reads_some fsck needs none = absurd needs
+reads_some judge needs none = absurd needs
+reads_some (gen number edits nodes) needs none = absurd needs
+reads_some (list of name) needs none = absurd needs
 
 -- a result that can't be one of success
 pub no_exit : {T E : Type 0} (r : Result T E) → IfOk r (λ t. ⊥) → IsErr r

@@ -3,6 +3,7 @@ pub mod BootDueLaws
 pub mod MeshEnds
 pub mod ReportLaws
 pub mod PlayLaws
+pub mod PipeLaws
 pub mod RequestLaws
 pub mod CompleteLaws
 pub mod MirrorLaws

@@ -47,7 +47,7 @@ too_long source h same =
 
 -- ## A script that was read, and its lists
 
-report_of : (Leaves : ScriptView → Mesh → List End → Type 0) (source : SourceUse) (script : ScriptView) (m : Mesh) (ends : List End) (text : List ℕ)
+pub report_of : (Leaves : ScriptView → Mesh → List End → Type 0) (source : SourceUse) (script : ScriptView) (m : Mesh) (ends : List End) (text : List ℕ)
     → (given : GivesScript source script) → Leaves script m ends → text ≡ text_of m ends
     → IsReport Leaves given.bytes text
 report_of Leaves source script m ends text given left is = record { script = script; reads = given.reads; mesh = m; ends = ends; leaves = left; printed = is }

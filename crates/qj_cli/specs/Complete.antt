@@ -1,5 +1,5 @@
 -- A command is done where its input is right and nothing fails.
-use Rattle.std.specs.Prelude.{ℕ, ◌≡◌, ◌⊎◌, ◌≤◌, true, List, [], ◌∷◌, Some, length}
+use Rattle.std.specs.Prelude.{ℕ, ◌≡◌, ◌⊎◌, ◌≤◌, true, List, [], ◌∷◌, Some, None, length}
 use Rattle.base_outside.specs.Faults.{Rose}
 use Rattle.journal_core.specs.declared.node_state.NodeState.{NodeState}
 use Rattle.journal_core.specs.declared.request.Request.{Request}
@@ -19,11 +19,12 @@ use Rattle.cli_commands.specs.declared.tool.Tool.{Tool}
 use Rattle.cli_commands.specs.declared.status.Status.{Status}
 use Rattle.cli_commands.specs.declared.status.Status.TheVariants as status
 use Rattle.cli_commands.specs.Uses.{SourceUse, SinkUse, DiskUse, AReadFailed, AWriteFailed}
-use Rattle.cli_commands.specs.Commands.{Asked, play, run, mirror, boot, node, fsck, judge, gen, list}
+use Rattle.cli_commands.specs.Commands.{Asked, play, run, piped, mirror, boot, node, fsck, judge, gen, list}
 use Rattle.qj_cli.specs.Sound.{AreSound as AreSoundLists, ComeOf}
 use Rattle.qj_cli.specs.Boots.{IsBooted}
 use Rattle.qj_cli.specs.Report.{IsReport}
 use Rattle.qj_cli.specs.Plays.{longest_script}
+use Rattle.qj_cli.specs.Pipes.{pipe_line_of}
 use Rattle.cli_commands.specs.Listing.{longest_file, IsInGrammar, file_under}
 
 -- ## Input in its grammar and within the limits
@@ -39,6 +40,11 @@ pub record HasText (source : SourceUse) : Type 0 where
 pub record HasScript (Leaves : ScriptView → Mesh → List End → Type 0) (source : SourceUse) : Type 0 where
   pub has : HasText source
   pub within : (text : List ℕ) → IsReport Leaves has.bytes text → length text ≤ longest_report
+
+-- and no line of it is one that pipes don't carry
+pub record HasPiped (source : SourceUse) : Type 0 where
+  pub has : HasScript AreSoundLists source
+  pub carried : pipe_line_of has.has.bytes ≡ None
 
 -- a script with names, over whose nodes a standby doesn't write more than a report may have
 pub record HasNames (source : SourceUse) : Type 0 where
@@ -86,6 +92,7 @@ pub record HasFile {D : Type 0} (of : Tool) (disk : DiskUse D) (name : List ℕ)
 abbrev pub IsRight : {D : Type 0} → Asked → SourceUse → DiskUse D → Type 0
 IsRight play source disk = HasScript ComeOf source
 IsRight run source disk = HasScript AreSoundLists source
+IsRight piped source disk = HasPiped source
 IsRight mirror source disk = HasText source
 IsRight boot source disk = HasNames source
 IsRight node source disk = HasRequests source × HasNode disk
@@ -106,6 +113,7 @@ pub record NothingFails {D : Type 0} (source : SourceUse) (sink : SinkUse) (disk
 abbrev pub IsDone : Asked → Status → Type 0
 IsDone play s = s ≡ status.Ok
 IsDone run s = s ≡ status.Ok
+IsDone piped s = s ≡ status.Ok
 IsDone mirror s = s ≡ status.Ok
 IsDone boot s = s ≡ status.Ok
 IsDone node s = s ≡ status.Ok

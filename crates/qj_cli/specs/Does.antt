@@ -4,9 +4,10 @@ use Rattle.cli_commands.specs.declared.status.Status.{Status}
 use Rattle.cli_commands.specs.declared.command_fault.CommandFault.TheVariants as fault
 use Rattle.cli_commands.specs.Uses.{SourceUse, SinkUse, DiskUse}
 use Rattle.cli_commands.specs.Told.{TellsFault}
-use Rattle.cli_commands.specs.Commands.{Asked, play, run, mirror, boot, node, fsck, judge, gen, list}
+use Rattle.cli_commands.specs.Commands.{Asked, play, run, piped, mirror, boot, node, fsck, judge, gen, list}
 use Rattle.qj_cli.specs.Sound.{AreSound, ComeOf}
 use Rattle.qj_cli.specs.Plays.{Plays}
+use Rattle.qj_cli.specs.Pipes.{Pipes}
 use Rattle.cli_commands.specs.Listing.{Lists}
 use Rattle.cli_commands.specs.Serving.{Serves}
 use Rattle.cli_commands.specs.Checks.{Checks}
@@ -20,6 +21,7 @@ use Rattle.qj_cli.specs.Judging.{JudgesReport}
 abbrev pub Does : {D : Type 0} → Asked → SourceUse → SinkUse → DiskUse D → Status → Type 0
 Does play source sink disk s = Plays ComeOf source sink s × (disk.now ≡ disk.before)
 Does run source sink disk s = Plays AreSound source sink s × (disk.now ≡ disk.before)
+Does piped source sink disk s = Pipes source sink s × (disk.now ≡ disk.before)
 Does mirror source sink disk s = Mirrors source sink s × (disk.now ≡ disk.before)
 Does boot source sink disk s = Boots source sink s × (disk.now ≡ disk.before)
 Does node source sink disk s = Serves source sink disk s
@@ -35,12 +37,20 @@ Refuses place sink disk s = TellsFault (fault.Usage place) s sink × (disk.now �
 -- the commands that need threads
 abbrev pub NeedsThreads : Asked → Type 0
 NeedsThreads run = Unit {0}
+NeedsThreads piped = Unit {0}
 NeedsThreads _ = ⊥
+
+-- what such a command does to its source and its sink
+abbrev pub ByThreads : Asked → SourceUse → SinkUse → Status → Type 0
+ByThreads run source sink s = Plays AreSound source sink s
+ByThreads piped source sink s = Pipes source sink s
+ByThreads _ source sink s = ⊥
 
 -- the commands that read no source
 abbrev pub ReadsNone : Asked → Type 0
 ReadsNone play = ⊥
 ReadsNone run = ⊥
+ReadsNone piped = ⊥
 ReadsNone mirror = ⊥
 ReadsNone boot = ⊥
 ReadsNone node = ⊥

@@ -4,6 +4,8 @@ use Rattle.report_judge.specs.declared.judgement.Finding.{Finding}
 use Rattle.play_report.specs.Limit.{longest_report}
 use Rattle.report_judge.specs.Reads.{IsLine}
 use Rattle.report_judge.specs.Judged.{OfAgreeing, OfDisagreeing, OfPlace, agrees_text, disagrees_text}
+use Rattle.report_judge.specs.Written.{NoReport}
+use Rattle.report_judge.specs.Complete.{IsFirst}
 use Rattle.cli_commands.specs.declared.status.Status.{Status}
 use Rattle.cli_commands.specs.declared.status.Status.TheVariants as status
 use Rattle.cli_commands.specs.declared.command_fault.CommandFault.{CommandFault}
@@ -37,7 +39,7 @@ pub data GivesJudgement (source : SourceUse) (good : Status) (text : List ℕ) :
 
 -- each fault comes only where this holds
 abbrev pub IsJudgeFault : SourceUse → CommandFault → Type 0
-IsJudgeFault source (fault.BadReport line rule) = (bytes : List ℕ) × IsReadReport source bytes × IsLine bytes line
+IsJudgeFault source (fault.BadReport line rule) = (bytes : List ℕ) × IsReadReport source bytes × IsLine bytes line × NoReport bytes × IsFirst bytes line rule
 IsJudgeFault source (fault.Limit number) = (number ≡ longest_report) × IsLongReport source
 IsJudgeFault source fault.ReadFault = AReadFailed source
 IsJudgeFault source fault.OutOfMemory = Unit {0}

@@ -1,6 +1,7 @@
 pub mod Sound
 pub mod Report
 pub mod Plays
+pub mod Pipes
 pub mod Generates
 pub mod Boots
 pub mod Mirrors

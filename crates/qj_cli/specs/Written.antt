@@ -3,7 +3,7 @@ use Rattle.std.specs.Prelude.{ℕ, ◌≡◌, ◌⊎◌, ◌≤◌, Bool, true, 
 use Rattle.std.proofs.Common.{refl, sym, ap, subst, ◌∙◌, inl, inr, ⊎_elim, arith, append_assoc, append-nil}
 use Rattle.std.specs.Io.KnownBytes.{Appends}
 use Rattle.std.proofs.KnownBytes.{Appends-nil, Appends-trans}
-use Rattle.base_outside.specs.Faults.{Rose, counted}
+use Rattle.base_outside.specs.Faults.{Rose}
 
 -- what the sink took, where it tells it, how often it failed, what waits for it, and whether a
 -- write of this text failed

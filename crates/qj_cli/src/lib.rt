@@ -9,6 +9,7 @@ mod generating;
 mod judging;
 mod laws;
 mod mirroring;
+mod piping;
 mod playing;
 mod plays;
 mod top;

@@ -115,7 +115,7 @@ fn run_source<R: Threads + Wait + Sync, G: Pass + Sync, S: Source, K: Sink>(
     ensures still { IfErr result (λ fault. sink.new ≡ sink.old) }
 {
     let script = read_source(alloc, source)?;
-    let Ok(played) = run_soundly(rt, alloc, &script, pass) else {
+    let Ok(played) = run_soundly(rt, alloc, false, &script, pass) else {
         return Err(CommandFault::OutOfMemory);
     };
     write_played(alloc, sink, script, played)

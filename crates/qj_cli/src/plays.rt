@@ -5,7 +5,8 @@ ghost use Rattle.base_disk.specs.MemDisk.{disk_view, CannotFail};
 ghost use Rattle.journal_core.specs.Step.{fresh_state};
 ghost use Rattle.disk_node.specs.Node.{told_state};
 ghost use Rattle.play_script.specs.Grammar.{IsScript};
-ghost use Rattle.play_model.specs.Lines.{lines_of};
+ghost use Rattle.play_model.specs.Lines.{lines_of, IsPlayable, NumbersFit};
+ghost use Rattle.play_threads.specs.Gathered.{IsRunOf};
 ghost use Rattle.play_model.specs.Plays.{LeavesImages, states_after};
 ghost use Rattle.qj_cli.specs.Sound.{AreSound, ComeOf};
 
@@ -23,6 +24,7 @@ use play_laws::{
 use play_model::{
     Played, a_mesh_that_agrees_is_safe, a_play_agrees, a_play_follows, scripts_are_playable,
 };
+use play_pipes::run_piped_on;
 use play_script::{Script, ScriptLine};
 use play_threads::{Actors, Pass, act_alone, run_on};
 use run_safety::laws::every_run_keeps_its_parts;
@@ -101,11 +103,35 @@ pub fn play_soundly(
     Ok(left.played)
 }
 
+/// A script played by threads over these nodes. The actors' calls go through pipes, or not.
+fn run_over<R: Threads + Wait + Sync, N: CutNode + Drop + Send, G: Pass + Sync>(
+    rt: &R,
+    alloc: Global,
+    has_pipes: bool,
+    nodes: Vec<N>,
+    script: &Script,
+    pass: &G,
+) -> Result<Played<N>, OutOfMemory>
+    requires playable { IsPlayable script.now }
+    requires numbers { NumbersFit script.now }
+    requires count { length nodes.items ≡ script.now.nodes }
+    requires fresh { All (λ n. N.state n ≡ Some fresh_state) nodes.items }
+    requires steady { All (λ n. N.steady n) nodes.items }
+    ensures { IfOk result (λ played. IsRunOf script.now.named script.now.nodes (lines_of script.now) played.mesh played.ends) }
+{
+    if has_pipes {
+        run_piped_on::<ScriptActors, _, _, _>(rt, alloc, nodes, script, pass)
+    } else {
+        run_on::<ScriptActors, _, _, _>(rt, alloc, nodes, script, pass)
+    }
+}
+
 /// A script played by a thread for each actor and one for the operator, each with its own lines in
-/// order. `pass` is called before each call.
+/// order. The actors' calls go through pipes, or not. `pass` is called before each call.
 pub fn run_soundly<R: Threads + Wait + Sync, G: Pass + Sync>(
     rt: &R,
     alloc: Global,
+    has_pipes: bool,
     script: &Script,
     pass: &G,
 ) -> Result<Played<JournalNode<MemDisk>>, OutOfMemory>
@@ -121,6 +147,6 @@ pub fn run_soundly<R: Threads + Wait + Sync, G: Pass + Sync>(
     results_tell_acknowledged();
     names_are_kept();
     let nodes = fresh_nodes(alloc, script.nodes())?;
-    let played = run_on::<ScriptActors, _, _, _>(rt, alloc, nodes, script, pass)?;
+    let played = run_over(rt, alloc, has_pipes, nodes, script, pass)?;
     Ok(played)
 }

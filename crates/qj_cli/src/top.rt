@@ -1,20 +1,22 @@
 //! The top call.
 ghost use Rattle.std.specs.Prelude.{◌≡◌, ◌↔◌, ℕ, Some, IfOk, IfErr, IsErr};
-ghost use Rattle.cli_commands.specs.Commands.{Asked, asked_in, IsAllowed, AskFor, run};
+ghost use Rattle.cli_commands.specs.Commands.{Asked, asked_in, IsAllowed, AskFor};
 ghost use Rattle.cli_commands.specs.Usage.{bytes_of, usage_of};
 ghost use Rattle.cli_commands.specs.Uses.{read_from, written_to, done_to};
-ghost use Rattle.qj_cli.specs.Does.{Does, Refuses, ReadsNone, NeedsThreads};
+ghost use Rattle.qj_cli.specs.Does.{Does, Refuses, ReadsNone, NeedsThreads, ByThreads};
 ghost use Rattle.qj_cli.specs.Complete.{IsComplete};
 
 use crate::booting::boot_script;
 use crate::generating::play_generated;
 use crate::judging::judge_report;
 use crate::mirroring::mirror_script;
+use crate::piping::pipe_script;
 use crate::playing::{play_script, run_script};
 use base_disk::Disk;
 use base_outside::{Sink, Source};
 use cli_commands::{
-    Command, CommandFault, Exit, check_files, list_file, read_command, serve_node, write_fault,
+    Command, CommandFault, Exit, Status, asks_piped, check_files, list_file, read_command,
+    serve_node, write_fault,
 };
 use play_threads::Pass;
 use std::alloc::Global;
@@ -43,7 +45,7 @@ fn do_command<S: Source, K: Sink, D: Disk>(
             status: play_script(alloc, source, sink),
             disk,
         }),
-        Command::Run => Err(disk),
+        Command::Run | Command::Piped => Err(disk),
         Command::Mirror => Ok(Exit {
             status: mirror_script(alloc, source, sink),
             disk,
@@ -79,8 +81,8 @@ fn do_command<S: Source, K: Sink, D: Disk>(
 }
 
 /// Does what `qjm` does for each command that needs no threads, without them; it returns always.
-/// The disk alone comes back exactly where the words are the one word `run`, and then nothing was
-/// read or written.
+/// The disk alone comes back exactly where the words are the one word `run` or the one word `piped`,
+/// and then nothing was read or written.
 pub fn qjm_alone<S: Source, K: Sink, D: Disk>(
     alloc: Global,
     words: &[String],
@@ -106,9 +108,9 @@ pub fn qjm_alone<S: Source, K: Sink, D: Disk>(
 
     ensures tells { IfOk result (λ exit. D.tells disk ↔ D.tells exit.disk) }
 
-    // Only `run` needs threads.
-    ensures threads { IfErr result (λ left. AskFor (bytes_of words.now) run × (left ≡ disk) × (source.new ≡ source.old) × (sink.new ≡ sink.old)) }
-    ensures alone { AskFor (bytes_of words.now) run → IsErr result }
+    // Only `run` and `piped` need threads.
+    ensures threads { IfErr result (λ left. ((asked : Asked) × NeedsThreads asked × AskFor (bytes_of words.now) asked) × (left ≡ disk) × (source.new ≡ source.old) × (sink.new ≡ sink.old)) }
+    ensures alone { (asked : Asked) → NeedsThreads asked → AskFor (bytes_of words.now) asked → IsErr result }
 {
     match read_command(words) {
         Ok(command) => do_command(alloc, command, source, sink, disk),
@@ -119,6 +121,26 @@ pub fn qjm_alone<S: Source, K: Sink, D: Disk>(
     }
 }
 
+/// Plays the script that the source gives by threads, as the words ask, which ask for that.
+fn play_by_threads<R: Threads + Wait + Sync, G: Pass + Sync, S: Source, K: Sink>(
+    rt: &R,
+    alloc: Global,
+    pass: &G,
+    words: &[String],
+    source: &mut S,
+    sink: &mut K,
+) -> Status
+    requires { (asked : Asked) × NeedsThreads asked × AskFor (bytes_of words.now) asked }
+    ensures { (asked : Asked) × NeedsThreads asked × AskFor (bytes_of words.now) asked
+        × ByThreads asked (read_from S.left S.faults source.old source.new) (written_to K.taken K.faults K.kept_back sink.old sink.new) result }
+{
+    if asks_piped(words) {
+        pipe_script(rt, alloc, pass, source, sink)
+    } else {
+        run_script(rt, alloc, pass, source, sink)
+    }
+}
+
 /// Does the command that the words after the program's name ask for:
 ///
 /// - `play` plays the script that the source gives, over nodes on disks in memory, and writes the
@@ -126,6 +148,9 @@ pub fn qjm_alone<S: Source, K: Sink, D: Disk>(
 /// - `run` does the same by a thread for each actor and one for the operator, each with its own
 ///   lines in order; how their calls fall among one another is the schedule's. `pass` is called
 ///   before each call. The call may wait.
+/// - `piped` does what `run` does for a script without names and without `late` lines, but that the
+///   calls of each actor go through pipes: a worker for each actor and node makes them, and a
+///   round's request reaches the workers of all its nodes before the first answer is awaited.
 /// - `mirror` plays the script in order, over nodes without files, makes one pass of a fresh mirror
 ///   over them, and writes for each node how many final segments it told or why it told none, the
 ///   segments that are held, and how many edits they have. The disk isn't called.
@@ -168,7 +193,8 @@ pub fn qjm_alone<S: Source, K: Sink, D: Disk>(
 /// comes to has more than 268,435,456, the file has more than 134,217,728, or the listing more than
 /// 16,384 entries; of a node a line with more than 1,048,576, or a source with more than
 /// 1,073,741,824. `BadScript`: the first line, from 1, that breaks a rule, and the rule; of `boot`
-/// rule 1 where the line begins a script without names; of a node the first that isn't a request;
+/// rule 1 where the line begins a script without names; of `piped` rule 1 where it begins one with
+/// names, and rule 2 where it is a `late` line; of a node the first that isn't a request;
 /// `BadReport` of a report, with the same status. `BadBytes`: the place of the file's first damage
 /// and its cause, `0 NoFile` where there is no such file; of a listing `0 Json` where the file is
 /// no array of JSON, and `INDEX Entry` of its first value, from 0, that is the object of no edit at
@@ -208,7 +234,7 @@ pub fn qjm<R: Threads + Wait + Sync, G: Pass + Sync, S: Source, K: Sink, D: Disk
     match qjm_alone(alloc, words, source, sink, disk) {
         Ok(exit) => exit,
         Err(disk) => Exit {
-            status: run_script(rt, alloc, pass, source, sink),
+            status: play_by_threads(rt, alloc, pass, words, source, sink),
             disk,
         },
     }

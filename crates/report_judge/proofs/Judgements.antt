@@ -16,6 +16,7 @@ use Rattle.report_judge.specs.Reads.{IsReportOf}
 use Rattle.report_judge.specs.declared.judgement.Judgement.{Judgement}
 use Rattle.report_judge.specs.declared.judgement.Judgement.TheVariants as judgement
 use Rattle.report_judge.specs.Judged.{is_markless, marked_by, JudgesLists, Judges, Places}
+use Rattle.report_judge.specs.Complete.{Completes}
 
 -- a part that doesn't speak of marks is kept with any
 any_marks : (p : Part) (m : Mesh) (plan : List (List Mark)) → is_markless p ≡ true → length plan ≡ length m.plan → Keeps p (marked_by m plan) → Keeps p m
@@ -52,3 +53,10 @@ placed bytes lists (Ok judgement.Agrees) of d = tt
 placed bytes lists (Ok (judgement.Disagrees found)) of d = record { lists = lists; is_report = of; breaks = d.0; place = d.1 }
 placed bytes lists (Ok (judgement.Bad line rule)) of d = tt
 placed bytes lists (Err e) of d = d
+
+-- lists are never judged bad
+pub completed : {E : Type 0} (bytes : List ℕ) (lists : Lists) (r : Result Judgement E) → IfOk r (λ j. JudgesLists lists j) → IfOk r (λ j. Completes bytes j)
+completed bytes lists (Ok judgement.Agrees) d = tt
+completed bytes lists (Ok (judgement.Disagrees found)) d = tt
+completed bytes lists (Ok (judgement.Bad line rule)) d = absurd d
+completed bytes lists (Err e) d = d

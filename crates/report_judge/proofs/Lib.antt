@@ -2,3 +2,15 @@ pub mod LineLaws
 pub mod FrontLaws
 pub mod PlaceLaws
 pub mod Judgements
+pub mod PieceLaws
+pub mod CutLaws
+pub mod Tame
+pub mod LineBack
+pub mod NameBack
+pub mod RowBack
+pub mod PartBack
+pub mod Complete
+pub mod Local
+pub mod FirstLaws
+pub mod ReadLaws
+pub mod ColumnLaws

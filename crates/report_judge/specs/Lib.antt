@@ -3,3 +3,9 @@ pub mod Callers
 pub mod Reads
 pub mod Places
 pub mod Judged
+pub mod Cuts
+pub mod Pieces
+pub mod Rows
+pub mod Reading
+pub mod Written
+pub mod Complete

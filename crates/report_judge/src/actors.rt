@@ -1,8 +1,11 @@
 //! The callers of a report: the actors in order of declaration, and then the operator.
+ghost use Rattle.std.specs.Prelude.{◌≡◌, [], IfOk, IfErr, OnOk};
+ghost use Rattle.report_judge.specs.Pieces.{pieces, Taken, Stops};
+ghost use Rattle.report_judge.specs.Reading.{actor_in, actors_in, operator_in, callers_in};
+
 use crate::last_space::read_last;
-use crate::records::{is_end, read_record, split_name};
+use crate::records::{after_name, is_end, is_name_next, read_record};
 use crate::requests::Requests;
-use crate::rules::Rule;
 use crate::unread::Unread;
 use base_words::Name;
 use journal_history::RecordList;
@@ -16,29 +19,19 @@ pub(crate) struct Callers {
     pub(crate) records: RecordTable,
 }
 
-/// What follows the line of the actor with the name.
-fn after_name<'a>(name: &[u8], text: &'a [u8]) -> Result<&'a [u8], Unread> {
-    match split_name(text) {
-        Some((told, lines)) => {
-            if told == name {
-                Ok(lines)
-            } else {
-                Err(Unread::bad(text, Rule::ActorLine))
-            }
-        }
-        None => Err(Unread::bad(text, Rule::ActorLine)),
-    }
-}
-
 /// An actor of the name, whose lines the text begins with, after the others; what follows them is
 /// given back.
+#[tactic(auto, using(crate::proofs::ReadLaws::actors))]
 fn read_actor<'a>(
     requests: &mut Requests<'a>,
     nodes: usize,
     name: &[u8],
     text: &'a [u8],
     callers: &mut Callers,
-) -> Result<&'a [u8], Unread> {
+) -> Result<&'a [u8], Unread>
+    ensures taken { IfOk result (λ rest. actor_in nodes name.now callers.old (pieces text.now) ≡ Taken callers.new (pieces rest.now)) }
+    ensures stopped { IfErr result (λ e. Stops (actor_in nodes name.now callers.old (pieces text.now)) e) }
+{
     let alloc = requests.alloc();
     let mut record = RecordList::new(alloc);
     let space = read_record(requests, nodes, text, &mut record)?;
@@ -51,13 +44,17 @@ fn read_actor<'a>(
 }
 
 /// The actors, which have these names in order; what follows them is given back.
+#[tactic(auto, using(crate::proofs::ReadLaws::all_actors))]
 fn read_actors<'a>(
     requests: &mut Requests<'a>,
     nodes: usize,
     names: &[End],
     text: &'a [u8],
     callers: &mut Callers,
-) -> Result<&'a [u8], Unread> {
+) -> Result<&'a [u8], Unread>
+    ensures taken { IfOk result (λ rest. actors_in nodes names.now callers.old (pieces text.now) ≡ Taken callers.new (pieces rest.now)) }
+    ensures stopped { IfErr result (λ e. Stops (actors_in nodes names.now callers.old (pieces text.now)) e) }
+{
     let mut rest = text;
     for end in names {
         let name = end.name.as_slice();
@@ -69,30 +66,39 @@ fn read_actors<'a>(
 
 /// The operator's record, where it is there, at the end of the others; what follows it is given
 /// back. Where it isn't it is empty.
+#[tactic(auto, using(crate::proofs::ReadLaws::operators))]
 fn read_operator<'a>(
     requests: &mut Requests<'a>,
     nodes: usize,
     text: &'a [u8],
     callers: &mut Callers,
-) -> Result<&'a [u8], Unread> {
+) -> Result<&'a [u8], Unread>
+    ensures taken { IfOk result (λ rest. operator_in nodes callers.old (pieces text.now) ≡ Taken callers.new (pieces rest.now)) }
+    ensures stopped { IfErr result (λ e. Stops (operator_in nodes callers.old (pieces text.now)) e) }
+{
     let mut record = RecordList::new(requests.alloc());
-    let mut rest = text;
-    if split_name(text).is_some() {
-        let lines = after_name(b"ops", text)?;
-        rest = read_record(requests, nodes, lines, &mut record)?;
+    if !is_name_next(text) {
+        callers.records.push(record)?;
+        return Ok(text);
     }
+    let lines = after_name(b"ops", text)?;
+    let rest = read_record(requests, nodes, lines, &mut record)?;
     callers.records.push(record)?;
     Ok(rest)
 }
 
 /// All callers, the actors with these names first, to the end of the report.
+#[tactic(auto, using(crate::proofs::ReadLaws::all_callers))]
 pub(crate) fn read_callers<'a>(
     requests: &mut Requests<'a>,
     nodes: usize,
     names: &[End],
     text: &'a [u8],
     callers: &mut Callers,
-) -> Result<(), Unread> {
+) -> Result<(), Unread>
+    ensures taken { OnOk result (callers_in nodes names.now callers.old (pieces text.now) ≡ Taken callers.new []) }
+    ensures stopped { IfErr result (λ e. Stops (callers_in nodes names.now callers.old (pieces text.now)) e) }
+{
     let rest = read_actors(requests, nodes, names, text, callers)?;
     let end = read_operator(requests, nodes, rest, callers)?;
     is_end(end)

@@ -1,5 +1,7 @@
 //! The histories of a report, node by node.
-ghost use Rattle.std.specs.Prelude.{◌≤◌, length};
+ghost use Rattle.std.specs.Prelude.{◌≡◌, ◌≤◌, IfOk, IfErr, length};
+ghost use Rattle.report_judge.specs.Pieces.{pieces, Taken, behind, Stops};
+ghost use Rattle.report_judge.specs.Reading.{history_in, is_header, header_in, nodes_in};
 
 use crate::asks::after;
 use crate::cutting::has_arrow;
@@ -15,6 +17,7 @@ use play_script::split_line;
 
 /// The lines of one node's history, which go on to the first line that has no `>`. They are put
 /// behind those that are there; what follows them is given back.
+#[tactic(auto, using(crate::proofs::ReadLaws::histories))]
 fn read_history<'a>(
     requests: &mut Requests<'a>,
     ends: &[End],
@@ -22,6 +25,8 @@ fn read_history<'a>(
     history: &mut HistoryList,
 ) -> Result<&'a [u8], Unread>
     requires { length ends.now ≤ 8 }
+    ensures taken { IfOk result (λ rest. behind history.old (history_in ends.now (pieces text.now)) ≡ Taken history.new (pieces rest.now)) }
+    ensures stopped { IfErr result (λ e. Stops (history_in ends.now (pieces text.now)) e) }
 {
     let mut rest = text;
     while let Some((line, others)) = split_line(rest) {
@@ -37,22 +42,35 @@ fn read_history<'a>(
     Ok(rest)
 }
 
+/// Whether the line is `node K` of this node.
+#[tactic(auto, using(crate::proofs::ReadLaws::numbers))]
+fn is_header(node: u64, line: &[u8]) -> bool
+    ensures { result ≡ is_header node line.now }
+{
+    match after(line, b"node ") {
+        Some(number) => number_of(number, node, node).is_some(),
+        None => false,
+    }
+}
+
 /// What follows the line `node K` of this node.
-fn after_header(node: u64, text: &[u8]) -> Result<&[u8], Unread> {
+#[tactic(auto, using(crate::proofs::ReadLaws::lines))]
+fn after_header(node: u64, text: &[u8]) -> Result<&[u8], Unread>
+    ensures taken { IfOk result (λ rest. header_in node (pieces text.now) ≡ Taken tt (pieces rest.now)) }
+    ensures stopped { IfErr result (λ e. Stops (header_in node (pieces text.now)) e) }
+{
     let Some((line, others)) = split_line(text) else {
         return Err(Unread::bad(text, Rule::NodeLine));
     };
-    let Some(number) = after(line, b"node ") else {
+    if !is_header(node, line) {
         return Err(Unread::bad(text, Rule::NodeLine));
-    };
-    match number_of(number, node, node) {
-        Some(_) => Ok(others),
-        None => Err(Unread::bad(text, Rule::NodeLine)),
     }
+    Ok(others)
 }
 
 /// The histories of so many nodes, each after the node's line, which are put behind those that are
 /// there; what follows them is given back.
+#[tactic(auto, using(crate::proofs::ReadLaws::nodes))]
 pub(crate) fn read_nodes<'a>(
     requests: &mut Requests<'a>,
     ends: &[End],
@@ -61,6 +79,8 @@ pub(crate) fn read_nodes<'a>(
     histories: &mut HistoryTable,
 ) -> Result<&'a [u8], Unread>
     requires { length ends.now ≤ 8 }
+    ensures taken { IfOk result (λ rest. nodes_in ends.now nodes 1 histories.old (pieces text.now) ≡ Taken histories.new (pieces rest.now)) }
+    ensures stopped { IfErr result (λ e. Stops (nodes_in ends.now nodes 1 histories.old (pieces text.now)) e) }
 {
     let mut rest = text;
     for index in 0..nodes {

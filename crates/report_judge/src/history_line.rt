@@ -1,5 +1,6 @@
 //! A line of a node's history.
-ghost use Rattle.std.specs.Prelude.{◌≤◌, length};
+ghost use Rattle.std.specs.Prelude.{◌≡◌, ◌≤◌, IfOk, length};
+ghost use Rattle.report_judge.specs.Reading.{history_line_in};
 
 use crate::answers::read_answer;
 use crate::asks::read_ask;
@@ -12,12 +13,14 @@ use ns_tree::End;
 
 /// The line of a history that the bytes say, without their LF; `None` where they say none. An `Err`
 /// is lack of memory.
+#[tactic(auto, unfolding(crate::specs::Reading::history_line_in))]
 pub(crate) fn read_history_line<'a>(
     requests: &mut Requests<'a>,
     ends: &[End],
     line: &'a [u8],
 ) -> Result<Option<HistoryLine>, OutOfMemory>
     requires { length ends.now ≤ 8 }
+    ensures { IfOk result (λ found. found ≡ history_line_in ends.now line.now) }
 {
     let Some((name, rest)) = cut_at(b' ', line) else {
         return Ok(None);

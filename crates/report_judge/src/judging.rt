@@ -1,6 +1,7 @@
 //! A report is judged.
 ghost use Rattle.std.specs.Prelude.{IfOk};
 ghost use Rattle.report_judge.specs.Judged.{JudgesLists, Judges, Places};
+ghost use Rattle.report_judge.specs.Complete.{Completes};
 
 use crate::answer::{Lists, Reading};
 use crate::judgement::Judgement;
@@ -26,10 +27,11 @@ fn judge_lists(alloc: Global, lists: &Lists) -> Result<Judgement, OutOfMemory>
 /// that breaks a rule. What its result lines claim isn't judged, and neither is what positions and
 /// rows tell. `OutOfMemory` where there isn't memory for the lists, for the texts of their
 /// requests, or to judge them.
-#[tactic(auto, using(crate::proofs::Judgements::judged, crate::proofs::Judgements::placed))]
+#[tactic(auto, using(crate::proofs::Judgements::judged, crate::proofs::Judgements::placed, crate::proofs::Judgements::completed))]
 pub fn judge(alloc: Global, bytes: &[u8]) -> Result<Judgement, OutOfMemory>
     ensures judged { IfOk result (λ j. Judges bytes.now j) }
     ensures placed { IfOk result (λ j. Places bytes.now j) }
+    ensures complete { IfOk result (λ j. Completes bytes.now j) }
 {
     epoch_order_is_a_run();
     epoch_order_is_safe();

@@ -1,4 +1,8 @@
 //! What an actor with names holds at last.
+ghost use Rattle.std.specs.Prelude.{◌≡◌, None, IfOk, IfErr};
+ghost use Rattle.report_judge.specs.Pieces.{pieces, Taken, behind, Stops};
+ghost use Rattle.report_judge.specs.Reading.{rows_in, space_in, last_in};
+
 use crate::asks::after;
 use crate::rows::read_row;
 use crate::rules::Rule;
@@ -10,7 +14,11 @@ use std::alloc::Global;
 
 /// The rows of a namespace, which are put behind those that are there; what follows them is given
 /// back.
-fn read_rows<'a>(alloc: Global, text: &'a [u8], rows: &mut Vec<Row>) -> Result<&'a [u8], Unread> {
+#[tactic(auto, using(crate::proofs::ReadLaws::rows))]
+fn read_rows<'a>(alloc: Global, text: &'a [u8], rows: &mut Vec<Row>) -> Result<&'a [u8], Unread>
+    ensures taken { IfOk result (λ rest. behind rows.old.items (rows_in (pieces text.now)) ≡ Taken rows.new.items (pieces rest.now)) }
+    ensures stopped { IfErr result (λ e. Stops (rows_in (pieces text.now)) e) }
+{
     let mut rest = text;
     while let Some((line, others)) = split_line(rest) {
         let Some(columns) = after(line, b". ") else {
@@ -25,12 +33,35 @@ fn read_rows<'a>(alloc: Global, text: &'a [u8], rows: &mut Vec<Row>) -> Result<&
     Ok(rest)
 }
 
+/// The rows behind a position; what follows them is given back.
+#[tactic(auto, using(crate::proofs::ReadLaws::held_rows))]
+fn read_space<'a>(
+    alloc: Global,
+    position: u64,
+    text: &'a [u8],
+    last: &mut Option<LastSpace>,
+) -> Result<&'a [u8], Unread>
+    ensures taken { IfOk result (λ rest. space_in position (pieces text.now) ≡ Taken last.new (pieces rest.now)) }
+    ensures stopped { IfErr result (λ e. Stops (space_in position (pieces text.now)) e) }
+{
+    let mut rows = Vec::new(alloc);
+    let rest = read_rows(alloc, text, &mut rows)?;
+    let rows = RowList::of(rows);
+    *last = Some(LastSpace { position, rows });
+    Ok(rest)
+}
+
 /// A position and the rows of a namespace, where they are there; what follows them is given back.
+#[tactic(auto, using(crate::proofs::ReadLaws::spaces))]
 pub(crate) fn read_last<'a>(
     alloc: Global,
     text: &'a [u8],
     last: &mut Option<LastSpace>,
-) -> Result<&'a [u8], Unread> {
+) -> Result<&'a [u8], Unread>
+    requires { last.old ≡ None }
+    ensures taken { IfOk result (λ rest. last_in (pieces text.now) ≡ Taken last.new (pieces rest.now)) }
+    ensures stopped { IfErr result (λ e. Stops (last_in (pieces text.now)) e) }
+{
     let Some((line, others)) = split_line(text) else {
         return Ok(text);
     };
@@ -40,11 +71,5 @@ pub(crate) fn read_last<'a>(
     let Some(position) = number_word(word, 0) else {
         return Err(Unread::bad(text, Rule::PositionLine));
     };
-    let mut rows = Vec::new(alloc);
-    let rest = read_rows(alloc, others, &mut rows)?;
-    *last = Some(LastSpace {
-        position,
-        rows: RowList::of(rows),
-    });
-    Ok(rest)
+    read_space(alloc, position, others, last)
 }

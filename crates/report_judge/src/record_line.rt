@@ -1,6 +1,7 @@
 //! A line of a caller's record.
 ghost use Rattle.std.specs.Prelude.{◌≡◌, IfOk};
 ghost use Rattle.report_judge.specs.Lines.{outcome_in};
+ghost use Rattle.report_judge.specs.Reading.{record_line_in};
 
 use crate::answers::read_recorded;
 use crate::asks::{after, read_ask};
@@ -23,11 +24,14 @@ fn read_outcome(alloc: Global, text: &[u8]) -> Result<Option<Record>, OutOfMemor
 
 /// The line of a record that the bytes say, without their LF, of so many nodes; `None` where they
 /// say none. An `Err` is lack of memory.
+#[tactic(auto, using(crate::proofs::ReadLaws::numbers), unfolding(crate::specs::Reading::record_line_in))]
 pub(crate) fn read_record_line<'a>(
     requests: &mut Requests<'a>,
     nodes: usize,
     line: &'a [u8],
-) -> Result<Option<Record>, OutOfMemory> {
+) -> Result<Option<Record>, OutOfMemory>
+    ensures { IfOk result (λ found. found ≡ record_line_in nodes line.now) }
+{
     if let Some(text) = after(line, b"= ") {
         return read_outcome(requests.alloc(), text);
     }

@@ -1,4 +1,8 @@
 //! A row of a namespace.
+ghost use Rattle.std.specs.Prelude.{◌≡◌, ◌≤◌, ◌<◌, None, Some, IfOk, IfSome, MatchOption, drop};
+ghost use Rattle.std.specs.List.{fold};
+ghost use Rattle.report_judge.specs.Rows.{numbers_of, rights_of, bit_of, with_bit, is_sticky, permission_in, least_of, lengths_of, directory_of, file_of, row_in, told_rights};
+
 use crate::columns::Columns;
 use base_words::Name;
 use edit_ops::NumberList;
@@ -31,7 +35,11 @@ struct Rights<'a> {
 }
 
 /// The next columns, as a row's numbers.
-fn next_numbers(columns: &mut Columns) -> Option<Numbers> {
+#[tactic(auto, unfolding(crate::specs::Rows::numbers_of))]
+fn next_numbers(columns: &mut Columns) -> Option<Numbers>
+    ensures numbers { result ≡ numbers_of columns.old }
+    ensures rest { IfSome result (λ n. columns.new ≡ drop 1 (drop 1 (drop 1 (drop 1 (drop 1 (drop 1 columns.old)))))) }
+{
     let replication = columns.next_small()?;
     let mtime = columns.next_number()?;
     let atime = columns.next_number()?;
@@ -49,12 +57,15 @@ fn next_numbers(columns: &mut Columns) -> Option<Numbers> {
 }
 
 /// The next columns, and no more, as what stands behind a row's numbers.
-fn last_rights<'a>(columns: &mut Columns<'a>) -> Option<Rights<'a>> {
+#[tactic(auto, unfolding(crate::specs::Rows::rights_of))]
+fn last_rights<'a>(columns: &mut Columns<'a>) -> Option<Rights<'a>>
+    ensures { MatchOption result (rights_of columns.old ≡ None) (λ r. rights_of columns.old ≡ Some (told_rights r)) }
+{
     let names = columns.next_quota()?;
     let space = columns.next_quota()?;
-    let letters = columns.next()?;
-    let user = columns.next()?;
-    let group = columns.next()?;
+    let letters = columns.next_text()?;
+    let user = columns.next_text()?;
+    let group = columns.next_text()?;
     if columns.next().is_some() {
         return None;
     }
@@ -67,25 +78,69 @@ fn last_rights<'a>(columns: &mut Columns<'a>) -> Option<Rights<'a>> {
     })
 }
 
-/// A permission by its letters, of which the first tells no permission.
-fn permission_of(letters: &[u8]) -> u16 {
-    let mut permission: u16 = 0;
-    for letter in letters.iter().skip(1) {
-        let bit = if *letter == b'-' || *letter == b'T' {
-            0
-        } else {
-            1
-        };
-        permission = (permission % 256 * 2).saturating_add(bit);
+/// The bit that a letter tells.
+fn bit_of(letter: u8) -> u16
+    ensures bit { result ≡ bit_of letter }
+    ensures small { result ≤ 1 }
+{
+    if letter == b'-' || letter == b'T' {
+        0
+    } else {
+        1
     }
+}
+
+/// The letters behind the first.
+fn behind_first(letters: &[u8]) -> &[u8]
+    ensures { result.now ≡ drop 1 letters.now }
+{
+    match letters {
+        [] => letters,
+        [_, others @ ..] => others,
+    }
+}
+
+/// The bits that these letters tell, behind those before.
+#[tactic(auto, using(crate::proofs::ColumnLaws::bits))]
+fn bits_of(letters: &[u8]) -> u16
+    ensures bits { result ≡ fold with_bit 0 letters.now }
+    ensures small { result < 512 }
+{
+    let mut permission: u16 = 0;
+    for letter in letters {
+        permission = permission % 256 * 2 + bit_of(*letter);
+    }
+    permission
+}
+
+/// Whether the last letter tells the sticky bit.
+#[tactic(auto, unfolding(crate::specs::Rows::is_sticky))]
+fn is_sticky(letters: &[u8]) -> bool
+    ensures { result ≡ is_sticky letters.now }
+{
     match letters.last() {
-        Some(b't' | b'T') => permission % 512 + 512,
-        _ => permission,
+        Some(letter) => *letter == b't' || *letter == b'T',
+        None => false,
+    }
+}
+
+/// A permission by its letters, of which the first tells no permission.
+#[tactic(auto, using(crate::proofs::ColumnLaws::permissions))]
+fn permission_of(letters: &[u8]) -> u16
+    ensures { result ≡ permission_in letters.now }
+{
+    let permission = bits_of(behind_first(letters));
+    if is_sticky(letters) {
+        permission % 512 + 512
+    } else {
+        permission
     }
 }
 
 /// As much of a size as one block may have.
-fn least_of(size: u128) -> u64 {
+fn least_of(size: u128) -> u64
+    ensures { result ≡ least_of size }
+{
     if size > u128::from(u64::MAX) {
         u64::MAX
     } else {
@@ -94,10 +149,13 @@ fn least_of(size: u128) -> u64 {
 }
 
 /// So many lengths of blocks with this sum, none of them less than the next.
-fn lengths_of(alloc: Global, blocks: u64, size: u128) -> Result<NumberList, OutOfMemory> {
+#[tactic(auto, using(crate::proofs::ColumnLaws::lengths))]
+fn lengths_of(alloc: Global, blocks: u64, size: u128) -> Result<NumberList, OutOfMemory>
+    ensures { IfOk result (λ lengths. lengths ≡ lengths_of blocks size) }
+{
     let mut lengths = Vec::new(alloc);
     let mut left = size;
-    for _ in 0..blocks {
+    for _made in 0..blocks {
         let length = least_of(left);
         lengths.push(length)?;
         left = left.saturating_sub(u128::from(length));
@@ -106,7 +164,9 @@ fn lengths_of(alloc: Global, blocks: u64, size: u128) -> Result<NumberList, OutO
 }
 
 /// A directory.
-fn directory_of(alloc: Global, numbers: Numbers, rights: Rights<'_>) -> Result<Inode, OutOfMemory> {
+fn directory_of(alloc: Global, numbers: Numbers, rights: Rights<'_>) -> Result<Inode, OutOfMemory>
+    ensures { IfOk result (λ found. found ≡ directory_of numbers (told_rights rights.entry)) }
+{
     let user = Name::from_slice(alloc, rights.user)?;
     let group = Name::from_slice(alloc, rights.group)?;
     Ok(Inode::Dir {
@@ -120,7 +180,9 @@ fn directory_of(alloc: Global, numbers: Numbers, rights: Rights<'_>) -> Result<I
 }
 
 /// A file. Of its blocks a row tells how many there are, and their bytes in all.
-fn file_of(alloc: Global, numbers: Numbers, rights: Rights<'_>) -> Result<Inode, OutOfMemory> {
+fn file_of(alloc: Global, numbers: Numbers, rights: Rights<'_>) -> Result<Inode, OutOfMemory>
+    ensures { IfOk result (λ found. found ≡ file_of numbers (told_rights rights.entry)) }
+{
     let user = Name::from_slice(alloc, rights.user)?;
     let group = Name::from_slice(alloc, rights.group)?;
     let lengths = lengths_of(alloc, numbers.blocks, numbers.size)?;
@@ -139,7 +201,10 @@ fn file_of(alloc: Global, numbers: Numbers, rights: Rights<'_>) -> Result<Inode,
 
 /// A row that has the text, if it is a row's and tells no more blocks than a row may. An `Err` is
 /// lack of memory.
-pub(crate) fn read_row(alloc: Global, text: &[u8]) -> Result<Option<Row>, OutOfMemory> {
+#[tactic(auto, unfolding(crate::specs::Rows::row_in))]
+pub(crate) fn read_row(alloc: Global, text: &[u8]) -> Result<Option<Row>, OutOfMemory>
+    ensures { IfOk result (λ found. found ≡ row_in text.now) }
+{
     let mut columns = Columns::of(text);
     let Some(path) = columns.next() else {
         return Ok(None);

@@ -1,5 +1,7 @@
 //! The rules of a report.
+ghost use Rattle.std.specs.Prelude.{◌≡◌};
 ghost use Rattle.report_judge.specs.Reads.{IsRule};
+ghost use Rattle.report_judge.specs.Complete.{rule_number};
 
 /// A rule of a report, which a line may break.
 #[derive(Clone, Copy)]
@@ -28,7 +30,8 @@ pub(crate) enum Rule {
 impl Rule {
     /// Its number, from 1 to 9.
     pub(crate) fn number(self) -> u64
-        ensures { IsRule result }
+        ensures rule { IsRule result }
+        ensures number { result ≡ rule_number self }
     {
         match self {
             Rule::FirstLine => 1,

@@ -1,5 +1,5 @@
 //! Why a report isn't read.
-ghost use Rattle.std.specs.Prelude.{◌≡◌};
+ghost use Rattle.std.specs.Prelude.{◌≡◌, length};
 ghost use Rattle.report_judge.specs.declared.unread.Unread.TheVariants.{OutOfMemory};
 
 use crate::rules::Rule;
@@ -16,7 +16,9 @@ pub(crate) enum Unread {
 
 impl Unread {
     /// The first line of the rest of a report breaks this rule.
-    pub(crate) fn bad(rest: &[u8], rule: Rule) -> Unread {
+    pub(crate) fn bad(rest: &[u8], rule: Rule) -> Unread
+        ensures { result ≡ Unread.Bad (length rest.now) rule }
+    {
         Unread::Bad {
             left: rest.len(),
             rule,

@@ -1,6 +1,9 @@
 //! A report is read as a whole.
-ghost use Rattle.std.specs.Prelude.{◌≡◌, ◌≤◌, IfOk, count_by, length};
+ghost use Rattle.std.specs.Prelude.{◌≡◌, ◌≤◌, ◌+◌, [], IfOk, IfErr, MatchOption, count_by, length, take};
 ghost use Rattle.report_judge.specs.Reads.{ends_line, IsLine, IsReportOf, Tells};
+ghost use Rattle.report_judge.specs.Pieces.{pieces, Taken, IsBroken, Stops};
+ghost use Rattle.report_judge.specs.Reading.{no_callers, first_in, lists_in, shown, read_as};
+ghost use Rattle.report_judge.specs.Complete.{IsUnread, IsComplete};
 
 use crate::actors::{Callers, read_callers};
 use crate::answer::{Lists, Reading};
@@ -24,7 +27,10 @@ const MOST_NODES: u64 = 15;
 
 /// The nodes that the first line tells, from one to 15, and what follows it; `None` where it is no
 /// `nodes N`.
-fn split_nodes(bytes: &[u8]) -> Option<(usize, &[u8])> {
+#[tactic(auto, using(crate::proofs::ReadLaws::firsts))]
+fn split_nodes(bytes: &[u8]) -> Option<(usize, &[u8])>
+    ensures { MatchOption result (IsBroken (first_in (pieces bytes.now)) (length bytes.now) Rule.FirstLine) (λ p. first_in (pieces bytes.now) ≡ Taken p.0 (pieces p.1.now)) }
+{
     let (line, rest) = split_line(bytes)?;
     let word = after(line, b"nodes ")?;
     let nodes = number_of(word, 1, MOST_NODES)?;
@@ -32,12 +38,18 @@ fn split_nodes(bytes: &[u8]) -> Option<(usize, &[u8])> {
 }
 
 /// The histories and the callers, in place of none. It gives the number of nodes.
+#[tactic(auto, using(crate::proofs::ReadLaws::parts))]
 fn read_parts(
     alloc: Global,
     bytes: &[u8],
     callers: &mut Callers,
     histories: &mut HistoryTable,
-) -> Result<usize, Unread> {
+) -> Result<usize, Unread>
+    requires callers { callers.old ≡ no_callers }
+    requires histories { histories.old ≡ [] }
+    ensures taken { IfOk result (λ nodes. lists_in (pieces bytes.now) ≡ Taken (read_as nodes histories.new callers.new) []) }
+    ensures stopped { IfErr result (λ e. Stops (lists_in (pieces bytes.now)) e) }
+{
     let Some((nodes, text)) = split_nodes(bytes) else {
         return Err(Unread::bad(bytes, Rule::FirstLine));
     };
@@ -49,7 +61,11 @@ fn read_parts(
 }
 
 /// The lists of a report, as its lines say them one by one.
-fn read_lists(alloc: Global, bytes: &[u8]) -> Result<Lists, Unread> {
+#[tactic(auto, using(crate::proofs::ReadLaws::reads))]
+fn read_lists(alloc: Global, bytes: &[u8]) -> Result<Lists, Unread>
+    ensures taken { IfOk result (λ lists. lists_in (pieces bytes.now) ≡ Taken (shown lists) []) }
+    ensures stopped { IfErr result (λ e. Stops (lists_in (pieces bytes.now)) e) }
+{
     let mut callers = Callers {
         ends: EndList::new(alloc),
         records: RecordTable::new(alloc),
@@ -70,8 +86,10 @@ fn read_lists(alloc: Global, bytes: &[u8]) -> Result<Lists, Unread> {
 }
 
 /// The lists of a report, which is printed of them: the bytes are compared with it line by line.
+#[tactic(auto, using(crate::proofs::Complete::unreads))]
 fn read_printed(alloc: Global, bytes: &[u8]) -> Result<Lists, Unread>
-    ensures { IfOk result (λ lists. IsReportOf bytes.now lists) }
+    ensures same { IfOk result (λ lists. IsReportOf bytes.now lists) }
+    ensures unread { IfErr result (λ e. IsUnread bytes.now e) }
 {
     let lists = read_lists(alloc, bytes)?;
     match parting(&lists.mesh, &lists.ends, bytes) {
@@ -104,17 +122,21 @@ fn count_ends(bytes: &[u8]) -> u64
 #[tactic(auto, using(crate::proofs::LineLaws::line_is))]
 fn line_at(bytes: &[u8], place: usize) -> u64
     requires { place ≤ length bytes.now }
-    ensures { IsLine bytes.now result }
+    ensures line { IsLine bytes.now result }
+    ensures count { result ≡ count_by ends_line (take place bytes.now) + 1 }
 {
     count_ends(&bytes[..place]) + 1
 }
 
 /// Reads a report: its lists, with the marks that their records tell, or the first line that breaks
 /// a rule, and the rule. Lists that aren't printed as the bytes break the last rule, in the line in
-/// which what is printed of them parts from the bytes. `OutOfMemory` where there isn't memory for
+/// which what is printed of them parts from the bytes. Bytes that break a rule are no report of
+/// lists within the limits. `OutOfMemory` where there isn't memory for
 /// the lists and for the texts of their requests.
+#[tactic(auto, using(crate::proofs::FirstLaws::firsts))]
 pub fn read_report(alloc: Global, bytes: &[u8]) -> Result<Reading, OutOfMemory>
-    ensures { IfOk result (λ r. Tells bytes.now r) }
+    ensures told { IfOk result (λ r. Tells bytes.now r) }
+    ensures complete { IfOk result (λ r. IsComplete bytes.now r) }
 {
     match read_printed(alloc, bytes) {
         Ok(lists) => Ok(Reading::Read(lists)),

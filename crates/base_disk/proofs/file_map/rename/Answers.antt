@@ -16,12 +16,14 @@ moves from to file m made gone new ne others was removed set = record {
 pub replace-requires : goal.replace-requires
 replace-requires c =
     let ne : c.args.from.now ≢ c.args.to.now = apart c.args.from.now c.args.to.now (sym c.if-eq.ensures) in
-    let removed : SetsFile c.args.from.now None c.make_room.new.files c.remove.new.self = sets_file c.args.from.now c.make_room.new.files c.remove.new.self None c.in-Some.ensures.updates in
+    let removed : SetsFile c.args.from.now None c.make_room.new.files.entries c.remove.new.self.entries =
+    sets_file c.args.from.now c.make_room.new.files c.remove.new.self None c.in-Some.ensures.updates in
     subst (λ (o : Option FileView). IsSome o) (sym (removed.others c.args.to.now (λ same. ne (sym same)))) c.in_ok-make_room.ensures.ok.0
 
 pub returns-in-Some-clause-ok : goal.returns-in-Some-clause-ok
 returns-in-Some-clause-ok c =
     let ne : c.args.from.now ≢ c.args.to.now = apart c.args.from.now c.args.to.now (sym c.if-eq.ensures) in
-    let removed : SetsFile c.args.from.now None c.make_room.new.files c.remove.new.self = sets_file c.args.from.now c.make_room.new.files c.remove.new.self None c.in-Some.ensures.updates in
-    moves c.args.from.now c.args.to.now c.in-Some.file c.args.files.now c.make_room.new.files c.remove.new.self c.replace.new.files ne
+    let removed : SetsFile c.args.from.now None c.make_room.new.files.entries c.remove.new.self.entries =
+    sets_file c.args.from.now c.make_room.new.files c.remove.new.self None c.in-Some.ensures.updates in
+    moves c.args.from.now c.args.to.now c.in-Some.file c.args.files.now.entries c.make_room.new.files.entries c.remove.new.self.entries c.replace.new.files.entries ne
     c.in_ok-make_room.ensures.ok.1 c.in-Some.ensures.value removed c.replace.ensures

@@ -1,4 +1,4 @@
-use Rattle.std.proofs.Common.{◌≡◌, ◌∙◌, List, ap, sym, subst, arith}
+use Rattle.std.proofs.Common.{◌∙◌, List, ap, sym, subst, arith}
 use Rattle.base_disk.specs.Files.{Files}
 use Rattle.ns_edits.specs.Replay.{Image}
 use Rattle.play_standby.specs.Saves.{one_saved}

@@ -16,11 +16,7 @@ overflow_cast-inner c = omega (arith, short_sized c.args.bodies.now c.requires.s
 
 pub returns-clause-spelled : goal.returns-clause-spelled
 returns-clause-spelled c =
-    frame_joined c.args.front.now c.args.first (12 + c.entries_length-inner.result) c.args.bodies.now c.extend_from_slice.new.self.items
-    c.push.new.self.items c.extend_from_slice-2.new.self.items c.extend_from_slice-3.new.self.items c.extend_from_slice-4.new.self.items
-    c.put_entries.new.out.items
-    c.to_be_bytes.result c.to_be_bytes-2.result c.to_be_bytes-3.result
-    (omega (arith, c.entries_length-inner.ensures.total)) (c.in_ok-extend_from_slice.ensures.items
-    ∙ ap (λ (x : List ℕ). x ++ c.args.front.now) c.in_ok-out.ensures.items) c.in_ok-push.ensures.items c.to_be_bytes.ensures
-    c.in_ok-extend_from_slice-2.ensures.items c.to_be_bytes-2.ensures c.in_ok-extend_from_slice-3.ensures.items c.to_be_bytes-3.ensures
-    c.in_ok-extend_from_slice-4.ensures.items c.in_ok-put_entries.ensures
+    frame_joined c.args.front.now c.args.first (12 + c.entries_length-inner.result) c.args.bodies.now c.extend_from_slice.new.self.items c.head_of.result
+    c.extend_from_slice-2.new.self.items c.put_entries.new.out.items (omega (arith, c.entries_length-inner.ensures.total))
+    (c.in_ok-extend_from_slice.ensures.items ∙ ap (λ (x : List ℕ). x ++ c.args.front.now) c.in_ok-out.ensures.items) c.head_of.ensures
+    c.in_ok-extend_from_slice-2.ensures.items c.in_ok-put_entries.ensures

@@ -1,12 +1,12 @@
 use Rattle.std.proofs.Common.{refl, sym, subst, ◌∙◌}
 use Rattle.std.proofs.lemmas.Result.{IfOk-weaker, IfErr-weaker}
 use Rattle.play_script.proofs.ScriptLaws.{breaks_no_rule}
-use Rattle.cli_commands.specs.Commands.{asked_in, run, AskFor}
+use Rattle.cli_commands.specs.Commands.{asked_in}
 use Rattle.cli_commands.specs.Usage.{bytes_of}
 use Rattle.cli_commands.specs.Uses.{read_from, written_to, done_to}
 use Rattle.qj_cli.specs.Does.{ReadsNone, NeedsThreads}
 use Rattle.cli_commands.proofs.WordLaws.{one_command, right_words}
-use Rattle.qj_cli.proofs.CompleteLaws.{completes, does_for, refused, needs_run, no_exit}
+use Rattle.qj_cli.proofs.CompleteLaws.{completes, does_for, refused, no_exit}
 use Rattle.qj_cli.proofs.top.qjm_alone.Goals as goal
 
 pub returns-in-Ok-clause-refused : goal.returns-in-Ok-clause-refused
@@ -45,16 +45,14 @@ returns-in-Ok-clause-tells g c = c.do_command.ensures.tells
 
 pub returns-in-Ok-clause-threads : goal.returns-in-Ok-clause-threads
 returns-in-Ok-clause-threads g c =
-    IfErr-weaker c.do_command.result _ _
-    (λ left h. (subst (λ a. AskFor (bytes_of c.args.words.now) a) (needs_run (asked_in c.in-Ok.command) h.0) c.in-Ok.ensures, h.1, h.2, h.3))
-    c.do_command.ensures.threads
+    IfErr-weaker c.do_command.result _ _ (λ left h. ((asked_in c.in-Ok.command, h.0, c.in-Ok.ensures), h.1, h.2, h.3)) c.do_command.ensures.threads
 
 pub returns-in-Ok-clause-alone : goal.returns-in-Ok-clause-alone
 returns-in-Ok-clause-alone g c =
-    λ asks.
+    λ asked needs asks.
     no_exit c.do_command.result
     (IfOk-weaker c.do_command.result _ _ (λ exit no. no (subst NeedsThreads
-    (one_command (bytes_of c.args.words.now) run (asked_in c.in-Ok.command) asks c.in-Ok.ensures) tt)) c.do_command.ensures.alone)
+    (one_command (bytes_of c.args.words.now) asked (asked_in c.in-Ok.command) asks c.in-Ok.ensures) needs)) c.do_command.ensures.alone)
 
 pub returns-in-Err-clause-refused : goal.returns-in-Err-clause-refused
 returns-in-Err-clause-refused g c =
@@ -79,7 +77,7 @@ pub returns-in-Err-clause-tells : goal.returns-in-Err-clause-tells
 returns-in-Err-clause-tells g c = ((λ t. t), (λ t. t))
 
 pub returns-in-Err-clause-alone : goal.returns-in-Err-clause-alone
-returns-in-Err-clause-alone g c = λ asks. absurd (right_words (bytes_of c.args.words.now) run c.in-Err.place asks c.in-Err.ensures)
+returns-in-Err-clause-alone g c = λ asked needs asks. absurd (right_words (bytes_of c.args.words.now) asked c.in-Err.place asks c.in-Err.ensures)
 
 pub do_command-requires : goal.do_command-requires
 do_command-requires g c = c.in-Ok.ensures.allowed

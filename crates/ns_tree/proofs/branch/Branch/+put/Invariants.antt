@@ -1,0 +1,4 @@
+use Rattle.ns_tree.proofs.branch.Branch.+put.Given as goal
+
+abbrev pub decreases-put : goal.decreases-put
+decreases-put l = goal.size-put l

@@ -1,0 +1,9 @@
+pub mod Relays
+pub mod CallLaws
+pub mod ServeLaws
+pub mod DeskLaws
+pub mod PipeLaws
+pub mod KeptLaws
+pub mod PipeLineLaws
+pub mod PipeSeatLaws
+pub mod PipeWorkLaws

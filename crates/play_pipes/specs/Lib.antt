@@ -1,0 +1,10 @@
+pub mod Relay
+pub mod Calls
+pub mod Answered
+pub mod Served
+pub mod Ends
+pub mod Desks
+pub mod PipeLines
+pub mod PipeSeats
+pub mod PipeWork
+pub mod MayProp
