@@ -10,8 +10,7 @@ again='' output=''
 # Opens what the program is to read as descriptor 3. A script that stands in no file is kept in one first.
 open_input() {
   case $1 in
-    play | run | piped | mirror | boot | node) exec 3<&0 ;;
-    play | run | mirror | node | judge) exec 3<&0 ;;
+    play | run | piped | mirror | boot | node | judge) exec 3<&0 ;;
     *) exec 3</dev/null; return ;;
   esac
   if is_input_a_file; then

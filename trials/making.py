@@ -277,6 +277,18 @@ def lonely(r):
     return Case([(['run'], '\n'.join(own).encode())])
 
 
+def carried(r):
+    """A script of one actor and no operator that pipes carry, or nearly."""
+    [(_, text)] = lonely(r).steps
+    lines = [line for line in text.split(b'\n') if not line.startswith(b'late ') or r.random() < .02]
+    if lines[0].startswith(b'names') and r.random() < .9:
+        return carried(r)
+    if r.random() < .1:
+        at = r.randrange(len(lines))
+        lines[at] = bad_line(r, lines[at])
+    return Case([(['piped'], b'\n'.join(lines))])
+
+
 # ## Sessions at a node
 
 class Session:
@@ -629,7 +641,7 @@ def bad_lines(r):
 
 def bad_words(r):
     """Words that make a command, or nearly."""
-    known = ['play', 'run', 'mirror', 'boot', 'node', 'fsck', 'oev', 'oiv', 'gen', 'list', 'stats', 'json', 'back', 'delimited', 'sizes', 's', 'none', '', '.', '1', '3', '15', '16', '0', '01', '4611686018427387905', '10001', b'\xff', 'x/y', 's/y']
+    known = ['play', 'run', 'piped', 'mirror', 'boot', 'node', 'fsck', 'oev', 'oiv', 'gen', 'list', 'stats', 'json', 'back', 'delimited', 'sizes', 's', 'none', '', '.', '1', '3', '15', '16', '0', '01', '4611686018427387905', '10001', b'\xff', 'x/y', 's/y']
     words = [r.choice(known) for _ in range(r.randint(0, 4))]
     if r.random() < .6:
         words = r.choice([['oev', 'list'], ['oev', 'stats'], ['oev', 'back', 's'], ['oev', 'back', 's', '1'], ['oiv', 'json'], ['gen', str(r.randrange(9)), str(r.choice([0, 1, 40])), str(r.randint(1, 16))], ['play'], ['node']]) + words[:2]
@@ -646,6 +658,7 @@ KINDS = {
     'raw': lambda r: Case([(['play'], script(r, 'raw').encode())]),
     'names': lambda r: Case([(['play'], script(r, 'names').encode())]),
     'run': lonely,
+    'piped': carried,
     'mirror': lambda r: Case([(['mirror'], script(r, r.choice(['raw', 'names'])).encode())]),
     'boot': lambda r: Case([(['boot'], script(r, 'names' if r.random() < .9 else 'raw').encode())]),
     'gen': generated,

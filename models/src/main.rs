@@ -77,7 +77,7 @@ fn usage_before_bad_text(plain: &[&str]) -> Ending {
 /// The words of a command, or the place of the first word at which they stop being a prefix of one.
 fn shape(words: &[&str]) -> Result<(), usize> {
     let second: &[&str] = match words.first().copied() {
-        Some("play" | "run" | "mirror" | "boot" | "node" | "fsck" | "judge") => return exact(words, 1),
+        Some("play" | "run" | "piped" | "mirror" | "boot" | "node" | "fsck" | "judge") => return exact(words, 1),
         Some("gen") => return shape_with_numbers(words, 1, &OF_GEN),
         Some("serve") => return shape_with_numbers(words, 1, &[1..=64]),
         Some("lead") => return shape_with_numbers(words, 1, &[1..=15]),
@@ -122,8 +122,9 @@ fn run(words: &[&str]) -> Ending {
         return Ending::Usage(place);
     }
     match words {
-        // `run` is played too: what it prints where one actor's lines don't fall among another's.
+        // `run` and `piped` are played too: what they print where one actor's lines don't fall among another's.
         ["play" | "run"] => with_script(play),
+        ["piped"] => with_script(piped),
         ["mirror"] => with_script(mirror),
         ["boot"] => with_script(boot),
         ["node"] => serve::serve(),
@@ -161,6 +162,17 @@ fn play(script: &[u8]) -> Result<Ending, BadLine> {
         Some(report) => Ending::Report(report),
         None => Ending::Limit(play::LONGEST_REPORT as u64),
     })
+}
+
+/// Plays a script that pipes carry: one without names and late copies. On one line the rules 10, 1 and 2 of scripts come before
+/// those of pipes, and the others after them.
+fn piped(script: &[u8]) -> Result<Ending, BadLine> {
+    let other = script::line_of_no_pipe(script);
+    match (play(script), other) {
+        (Err(own), Some(other)) if own.line < other.line || (own.line == other.line && matches!(own.rule, 1 | 2 | 10)) => Err(own),
+        (_, Some(other)) => Err(other),
+        (own, None) => own,
+    }
 }
 
 /// Plays a script, for what a mirror of its nodes holds then.

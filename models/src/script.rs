@@ -17,6 +17,17 @@ pub struct BadLine {
     pub rule: Rule,
 }
 
+/// The first line that pipes don't carry: one that begins with `names` or `late`. The last line counts with its line feed alone.
+/// FORMATS.md, "The program", `piped`.
+pub fn line_of_no_pipe(script: &[u8]) -> Option<BadLine> {
+    let lines = script.split_inclusive(|&byte| byte == b'\n').filter_map(|line| line.strip_suffix(b"\n"));
+    (1..).zip(lines).find_map(|(line, text)| match first_word(text) {
+        b"names" => Some(BadLine { line, rule: 1 }),
+        b"late" => Some(BadLine { line, rule: 2 }),
+        _ => None,
+    })
+}
+
 /// What the operator does with a node.
 #[derive(Clone, Copy)]
 pub enum Order {
