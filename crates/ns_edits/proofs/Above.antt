@@ -1,17 +1,25 @@
 -- Above what is there stand directories that are there: a walk to it from the root meets nothing
 -- that refuses.
 use Rattle.std.proofs.Common.{◌≡◌, ℕ, zero, suc, ◌<◌, ◌≤◌, List, [], ◌∷◌, ◌++◌, length, Bool, true, false, cond, refl, sym, ap, ◌∙◌, append_assoc, append-nil, Option, Some, None, arith, ◌==◌, ◌&&◌}
-use Rattle.std.specs.Prelude.{is_some, ◌||◌}
+use Rattle.std.specs.Prelude.{is_some, ◌||◌, not}
 use Rattle.ns_tree.specs.declared.inode.Inode.{Inode}
 use Rattle.ns_tree.specs.declared.inode.Row.{Row}
 use Rattle.ns_tree.specs.Path.{same_text, stem, path_of_stem, has_slash, before_last_slash, parent_of, is_path, is_root}
-use Rattle.ns_tree.specs.Space.{Space, is_dir, is_dir_there, find, Each, IsPair}
+use Rattle.ns_tree.specs.Space.{Space, is_dir_there, find, Each, IsPair}
 use Rattle.ns_tree.specs.Places.{IsTree}
 use Rattle.ns_tree.proofs.Order.{same_text_is}
 use Rattle.ns_tree.proofs.Parents.{Below, below_root, stem_same, shorter}
 use Rattle.ns_tree.proofs.Ancestors.{dir_some, found_parent}
 use Rattle.ns_edits.specs.declared.refusal.AdmitRefusal.{AdmitRefusal}
-use Rattle.ns_edits.specs.Admit.{Refusal, first, ancestor, ancestors}
+use Rattle.ns_edits.specs.declared.refusal.AdmitRefusal.TheVariants.{BadName}
+use Rattle.ns_edits.specs.Admit.{Refusal, first, refused_if, bad_path, ancestor, ancestors}
+
+pub good_path : (p : List ℕ) → None ≡ bad_path p → is_path p ≡ true
+good_path p e = by (is_path p) refl e
+  where
+    by : (z : Bool) → is_path p ≡ z → None ≡ refused_if (not z) BadName → is_path p ≡ true
+    by true is h = is
+    by false is h = absurd (cc h)
 
 -- ## Walks
 both_none : (a b : Refusal) → a ≡ None → b ≡ None → first (a ∷ b ∷ []) ≡ None

@@ -1,6 +1,6 @@
 -- What an admitted edit may rely on: the tests that it passed, one by one.
-use Rattle.std.proofs.Common.{◌≡◌, ℕ, ◌<◌, ◌≤◌, List, [], ◌∷◌, ◌++◌, length, Bool, true, false, cond, refl, sym, ap, ◌∙◌, subst, append_assoc, Option, Some, None, IsSome, arith, ◌==◌, ◌&&◌}
-use Rattle.std.specs.Prelude.{not, ◌||◌, ◌^◌, is_some, nat_lt, nat_le}
+use Rattle.std.proofs.Common.{◌≡◌, ℕ, ◌≤◌, List, [], ◌∷◌, ◌++◌, Bool, true, false, cond, refl, sym, ap, ◌∙◌, append_assoc, Option, Some, None, IsSome, arith, ◌==◌}
+use Rattle.std.specs.Prelude.{not, ◌||◌, is_some, nat_lt}
 use Rattle.std.specs.List.{AllByRecursion}
 use Rattle.std.proofs.lemmas.Bool.Decides.{nat_tests}
 use Rattle.std.proofs.lemmas.List.{append-nil}
@@ -10,13 +10,13 @@ use Rattle.edit_ops.specs.Fields.{IsGood}
 use Rattle.edit_ops.specs.Records.{EditView, fields_of, call_fields}
 use Rattle.ns_tree.specs.declared.inode.Inode.{Inode}
 use Rattle.ns_tree.specs.declared.inode.Row.{Row}
-use Rattle.ns_tree.specs.Path.{stem, path_of_stem, has_slash, before_last_slash, parent_of, is_path, is_owner, is_root}
+use Rattle.ns_tree.specs.Path.{stem, path_of_stem, has_slash, before_last_slash, parent_of, is_path, is_root}
 use Rattle.ns_tree.specs.Space.{Space, is_dir, is_dir_there, find, txid_of}
 use Rattle.ns_tree.proofs.Parents.{Below, below_root}
 use Rattle.ns_edits.specs.declared.refusal.AdmitRefusal.{AdmitRefusal}
-use Rattle.ns_edits.specs.declared.refusal.AdmitRefusal.TheVariants.{NoParent, Exists, Missing, NotDirectory, NotFile, Root, BadName, BadNumber, RepeatedCall}
-use Rattle.ns_edits.specs.Admit.{Refusal, first, refused_if, bad_path, bad_owner, bad_permission, bad_replication, bad_block_size, ancestor}
-use Rattle.ns_edits.specs.Admit.{ancestors, finds, has_parent, refused_there, refused_dir, admit_op, repeated_at, repeated, refused_first, admit_of}
+use Rattle.ns_edits.specs.declared.refusal.AdmitRefusal.TheVariants.{NoParent, Exists, Missing, NotDirectory, Root, BadName, BadNumber, RepeatedCall}
+use Rattle.ns_edits.specs.Admit.{Refusal, first, refused_if, bad_path, bad_permission, bad_replication, bad_block_size, ancestor}
+use Rattle.ns_edits.specs.Admit.{ancestors, finds, has_parent, refused_there, admit_op, repeated_at, repeated, refused_first, admit_of}
 use Rattle.std.proofs.lemmas.Bool.{or_parts}
 
 -- ## Tests that were passed

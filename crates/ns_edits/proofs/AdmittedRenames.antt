@@ -1,22 +1,21 @@
 -- What an admitted rename may rely on: the path that moves is there, and the one that it moves to
 -- can take it.
-use Rattle.std.proofs.Common.{◌≡◌, ℕ, ◌<◌, ◌≤◌, ◌+◌, ◌-◌, List, [], ◌∷◌, ◌++◌, length, Bool, true, false, cond, refl, sym, ap, ◌∙◌, subst, append-nil}
-use Rattle.std.proofs.Common.{append_assoc, Option, Some, None, IsSome, ◌==◌, ◌&&◌, arith}
-use Rattle.std.specs.Prelude.{not, ◌||◌, is_some, nat_lt}
+use Rattle.std.proofs.Common.{◌≡◌, ℕ, ◌≤◌, ◌+◌, ◌-◌, List, [], ◌∷◌, ◌++◌, length, Bool, true, false, cond, refl, sym, ap, ◌∙◌, append-nil}
+use Rattle.std.proofs.Common.{Option, Some, None, IsSome, ◌==◌, ◌&&◌, arith}
+use Rattle.std.specs.Prelude.{◌||◌, is_some, nat_lt}
 use Rattle.std.proofs.lemmas.Bool.Decides.{nat_tests}
 use Rattle.ns_tree.specs.declared.inode.Inode.{Inode}
 use Rattle.ns_tree.specs.declared.inode.Inode.TheVariants.{Dir, File}
 use Rattle.ns_tree.specs.declared.inode.Row.{Row}
-use Rattle.ns_tree.specs.Path.{same_text, stem, path_of_stem, is_under, is_at_or_under, has_slash, before_last_slash, parent_of, is_component, are_components, is_path, is_root}
-use Rattle.ns_tree.specs.Space.{Space, is_dir, is_dir_there, find, has_under, longest_under}
+use Rattle.ns_tree.specs.Path.{same_text, stem, path_of_stem, is_at_or_under, has_slash, before_last_slash, parent_of, is_component, are_components, is_path, is_root}
+use Rattle.ns_tree.specs.Space.{Space, is_dir_there, find, has_under, longest_under}
 use Rattle.ns_tree.specs.Places.{IsTree}
 use Rattle.ns_tree.proofs.Order.{same_text_is, same_text_self}
 use Rattle.ns_tree.proofs.Parents.{Below, below_root, stem_same}
 use Rattle.ns_tree.proofs.Tails.{is_tail, Tail, tail_of, tail_under, parent_tail, tail_parent, path_split}
 use Rattle.ns_tree.proofs.Ancestors.{no_dir_empty}
-use Rattle.ns_edits.specs.declared.refusal.AdmitRefusal.{AdmitRefusal}
-use Rattle.ns_edits.specs.declared.refusal.AdmitRefusal.TheVariants.{Exists, NotDirectory, NotFile, NotEmpty, Root, IntoItself, BadName}
-use Rattle.ns_edits.specs.Admit.{Refusal, refused_if, bad_path, finds, has_parent, refused_there, bad_move, last_component, target_in, target_of, admit_move, admit_rename_old, over, admit_rename}
+use Rattle.ns_edits.specs.declared.refusal.AdmitRefusal.TheVariants.{Exists, NotFile, NotEmpty, Root, IntoItself, BadName}
+use Rattle.ns_edits.specs.Admit.{refused_if, bad_path, finds, has_parent, refused_there, bad_move, last_component, target_in, target_of, admit_move, admit_rename_old, over, admit_rename}
 use Rattle.ns_edits.proofs.Admitted.{none≢some, all_passed, not_refused, is_so, not_there, has_parent_is, is_there}
 use Rattle.std.proofs.lemmas.Bool.{and_parts, or_parts}
 

@@ -6,7 +6,7 @@ use Rattle.ns_tree.specs.declared.inode.Row.{Row}
 use Rattle.ns_tree.specs.Path.{same_text, walk_cmp}
 use Rattle.ns_tree.specs.Space.{Space, pair, find, change_at, Each, IsInWalkOrder}
 use Rattle.ns_tree.specs.Places.{set_at, IsTree}
-use Rattle.ns_tree.proofs.Order.{same_text_is, not_same_after}
+use Rattle.ns_tree.proofs.Order.{same_text_is}
 use Rattle.ns_tree.proofs.Place.{change_after}
 
 pub change_found : (p : List ℕ) (f : Inode → Inode) (i : Inode) (xs : List Row) → IsInWalkOrder xs → find p xs ≡ Some i → change_at p f xs ≡ set_at p (f i) xs

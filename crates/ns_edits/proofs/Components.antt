@@ -1,5 +1,5 @@
 -- What comes after the last `/` of a path.
-use Rattle.std.proofs.Common.{◌≡◌, ℕ, zero, suc, ◌<◌, ◌+◌, List, [], ◌∷◌, length, drop, refl, arith, false, true, get_or, add-one}
+use Rattle.std.proofs.Common.{◌≡◌, ℕ, zero, suc, ◌<◌, ◌+◌, List, [], ◌∷◌, length, drop, refl, arith, false, get_or, add-one}
 use Rattle.ns_tree.specs.Path.{has_slash}
 use Rattle.ns_tree.proofs.Scans.{slash_at}
 use Rattle.ns_edits.specs.Admit.{last_component}

@@ -1,22 +1,19 @@
 -- The record of an edit decodes to that edit, and nothing else decodes.
-use Rattle.std.proofs.Common.{◌≡◌, ℕ, zero, suc, ◌+◌, ◌-◌, ◌<◌, ◌≤◌, List, [], ◌∷◌, ◌++◌, map, length, drop, Option, Some, None, Result, Ok, Err}
+use Rattle.std.proofs.Common.{◌≡◌, ℕ, zero, suc, ◌+◌, ◌-◌, ◌≤◌, List, [], ◌∷◌, ◌++◌, map, length, drop, Option, Some, None, Result, Ok, Err}
 use Rattle.std.proofs.Common.{Bool, true, false, cond, refl, sym, ap, ◌∙◌, subst, arith, ◌==◌, ◌≢◌, ◌⊎◌, inl, inr, nat_lt}
-use Rattle.std.specs.Prelude.{is_some, replicate}
+use Rattle.std.specs.Prelude.{replicate}
 use Rattle.std.specs.List.{flat_map, AllByRecursion}
 use Rattle.std.proofs.lemmas.Bool.Decides.{nat_tests}
 use Rattle.std.proofs.lemmas.List.{append-nil}
 use Rattle.base_words.specs.Fields.{IsBytes}
-use Rattle.edit_ops.specs.declared.call.Call.{Call}
 use Rattle.edit_ops.specs.declared.kind.OpKind.{OpKind}
 use Rattle.edit_ops.specs.declared.kind.OpKind.TheVariants as kinds
-use Rattle.edit_ops.specs.declared.op.Op.{Op}
-use Rattle.edit_ops.specs.declared.op.Op.TheVariants.{Add, RenameOld, Delete, Mkdir, SetReplication, SetPermissions, SetOwner, Close, Times, SetQuota}
-use Rattle.edit_ops.specs.declared.op.Op.TheVariants.{Rename, ConcatDelete, EndLogSegment, StartLogSegment}
+use Rattle.edit_ops.specs.declared.op.Op.TheVariants.{EndLogSegment, StartLogSegment}
 use Rattle.edit_ops.specs.declared.field_fault.FieldFault.{FieldFault}
 use Rattle.edit_ops.specs.Kinds.{code, is_mark}
 use Rattle.edit_ops.specs.Fields.{Kind, Field, Small, path, owner, new_owner, replication, permission, numbers, paths, text, small, number, flag}
 use Rattle.edit_ops.specs.Fields.{client, call_number, Text_, Small_, Number_, Flag_, Client_, Call_, kind_of_field, IsGood, follow, field_bytes}
-use Rattle.edit_ops.specs.Records.{EditView, kind_of, fields_of, call_fields, opcode, called, edit_fields, layout, full_layout, record_of}
+use Rattle.edit_ops.specs.Records.{EditView, kind_of, fields_of, opcode, called, edit_fields, layout, full_layout, record_of}
 use Rattle.edit_ops.specs.Reading.{fields_at}
 use Rattle.edit_codec.specs.declared.decoded.Decoded.{Decoded}
 use Rattle.edit_codec.specs.declared.decoded.Decoded.TheVariants.{Edit, OutOfMemory}

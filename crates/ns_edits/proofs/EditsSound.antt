@@ -1,5 +1,5 @@
 -- An admitted edit of each kind keeps what holds of every namespace's pairs.
-use Rattle.std.proofs.Common.{◌≡◌, ℕ, ◌≤◌, List, [], ◌∷◌, length, Bool, true, false, refl, sym, ap, ◌∙◌, Option, Some, None, arith}
+use Rattle.std.proofs.Common.{◌≡◌, ℕ, ◌≤◌, List, [], ◌∷◌, length, true, false, None}
 use Rattle.std.specs.Prelude.{◌^◌}
 use Rattle.std.specs.List.{AllByRecursion}
 use Rattle.edit_ops.specs.declared.op.Op.{Op}
@@ -14,14 +14,14 @@ use Rattle.ns_tree.specs.Path.{parent_of, is_path, is_root}
 use Rattle.ns_tree.specs.Space.{Space, is_dir, put, without, raise, renamed, change_at, IsInode}
 use Rattle.ns_tree.specs.Places.{IsTree}
 use Rattle.ns_tree.proofs.Walks.{order_change}
-use Rattle.ns_tree.proofs.Parents.{Below, below_root}
+use Rattle.ns_tree.proofs.Parents.{below_root}
 use Rattle.ns_tree.proofs.Pairs.{kept_change}
 use Rattle.ns_tree.proofs.Sound.{pairs_of, sound_pairs, sound_put, sound_without, sound_raise}
 use Rattle.ns_tree.proofs.RenameKeeps.{sound_renamed}
 use Rattle.ns_edits.specs.declared.refusal.AdmitRefusal.TheVariants.{Root, BadName}
-use Rattle.ns_edits.specs.Admit.{refused_if, bad_path, finds, target_of, blocks_at, admit_op, admit_delete}
+use Rattle.ns_edits.specs.Admit.{refused_if, bad_path, finds, target_of, blocks_at, admit_op}
 use Rattle.ns_edits.specs.Apply.{with_blocks, with_replication, with_permission, with_owner, with_times, with_quota, with_all_blocks, AreSources}
-use Rattle.ns_edits.specs.Apply.{without_sources, delete_of, move_of, concat_of, apply_op}
+use Rattle.ns_edits.specs.Apply.{without_sources, move_of, apply_op}
 use Rattle.ns_edits.proofs.Admitted.{all_passed, not_refused, is_so, CanStand}
 use Rattle.ns_edits.proofs.Inodes.{add_stands, add_good, mkdir_stands, mkdir_good, closed_dir, closed_good, replicated_dir, replicated_good}
 use Rattle.ns_edits.proofs.Inodes.{permitted_dir, permitted_good, owned_dir, owned_good, timed_dir, timed_good, limited_dir, limited_good, joined_dir}

@@ -1,6 +1,6 @@
 -- What an admitted edit makes or sets is within the limits of inodes.
-use Rattle.std.proofs.Common.{◌≡◌, ℕ, ◌<◌, ◌≤◌, List, [], ◌∷◌, ◌++◌, length, Bool, true, false, cond, refl, sym, ap, ◌∙◌, subst, Option, Some, None, arith, ◌&&◌}
-use Rattle.std.specs.Prelude.{not, ◌^◌, is_some, nat_lt, nat_le}
+use Rattle.std.proofs.Common.{◌≡◌, ℕ, ◌<◌, ◌≤◌, List, [], ◌∷◌, ◌++◌, length, Bool, true, false, cond, refl, sym, ap, subst, Option, Some, None, arith, ◌&&◌}
+use Rattle.std.specs.Prelude.{◌^◌, is_some, nat_lt, nat_le}
 use Rattle.std.specs.List.{AllByRecursion}
 use Rattle.std.proofs.lemmas.Bool.Decides.{nat_tests}
 use Rattle.edit_ops.specs.declared.op.Op.TheVariants.{Add, Mkdir, Close, Times, SetQuota, ConcatDelete}
@@ -9,9 +9,9 @@ use Rattle.edit_ops.specs.Records.{fields_of}
 use Rattle.ns_tree.specs.declared.inode.Inode.{Inode}
 use Rattle.ns_tree.specs.declared.inode.Inode.TheVariants.{Dir, File}
 use Rattle.ns_tree.specs.declared.inode.Row.{Row}
-use Rattle.ns_tree.specs.Path.{same_text, is_path, is_owner}
+use Rattle.ns_tree.specs.Path.{same_text, is_owner}
 use Rattle.ns_tree.specs.Space.{is_dir, find, Each, AreLengths, IsInode, IsPair}
-use Rattle.ns_edits.specs.declared.refusal.AdmitRefusal.TheVariants.{Exists, Missing, NotFile, BadName, BadNumber}
+use Rattle.ns_edits.specs.declared.refusal.AdmitRefusal.TheVariants.{Exists, NotFile, BadName, BadNumber}
 use Rattle.ns_edits.specs.Admit.{refused_if, bad_path, bad_owner, bad_new_owner, bad_permission, bad_replication, bad_block_size, finds, has_parent}
 use Rattle.ns_edits.specs.Admit.{refused_there, refused_dir, blocks_of, are_within, bad_blocks, admit_part, admit_sources, blocks_at, no_source}
 use Rattle.ns_edits.specs.Admit.{bad_paths, admit_add, admit_mkdir, admit_close, admit_set_replication, admit_set_permissions, admit_set_owner}

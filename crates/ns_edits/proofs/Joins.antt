@@ -1,9 +1,9 @@
 -- The sources of a concat can go one after the other: each is a file, and none is under another.
-use Rattle.std.proofs.Common.{◌≡◌, ℕ, ◌≤◌, List, [], ◌∷◌, ◌++◌, length, Bool, true, false, cond, refl, sym, ap, ◌∙◌, subst, append_assoc, Option}
+use Rattle.std.proofs.Common.{◌≡◌, ℕ, List, [], ◌∷◌, ◌++◌, length, Bool, true, false, cond, refl, sym, ap, ◌∙◌, append_assoc, Option}
 use Rattle.std.proofs.Common.{Some, None, ◌==◌, ◌&&◌, arith, suc, ◌<◌, ◌+◌, take, drop, get_or, add-one, drop-cons, append-nil}
 use Rattle.std.proofs.Math.Seq.{take-suc}
-use Rattle.std.specs.Prelude.{not, ◌||◌, is_some, nat_lt}
-use Rattle.std.specs.List.{AllByRecursion, list_any}
+use Rattle.std.specs.Prelude.{not, is_some, nat_lt}
+use Rattle.std.specs.List.{AllByRecursion}
 use Rattle.std.proofs.lemmas.Bool.Decides.{nat_tests}
 use Rattle.ns_tree.specs.declared.inode.Inode.{Inode}
 use Rattle.ns_tree.specs.declared.inode.Inode.TheVariants.{Dir, File}
@@ -15,10 +15,10 @@ use Rattle.ns_tree.proofs.Finds.{changed, find_change, find_without}
 use Rattle.ns_tree.proofs.Parents.{root_path, Below, below_root, stem_same}
 use Rattle.ns_edits.specs.declared.refusal.AdmitRefusal.{AdmitRefusal}
 use Rattle.ns_edits.specs.declared.refusal.AdmitRefusal.TheVariants.{Missing, NotFile, IntoItself, BadName, BadNumber}
-use Rattle.ns_edits.specs.Admit.{Refusal, first, refused_if, bad_path, ancestor, ancestors, finds, refused_dir, refused_open, is_one_of, bad_paths}
+use Rattle.ns_edits.specs.Admit.{first, refused_if, bad_path, ancestor, ancestors, finds, refused_dir, refused_open, is_one_of, bad_paths}
 use Rattle.ns_edits.specs.Admit.{admit_part, admit_sources, no_source, blocks_of, blocks_at, admit_concat}
 use Rattle.ns_edits.specs.Apply.{is_file_there, IsSource, AreSources}
-use Rattle.ns_edits.proofs.Admitted.{none≢some, AllPassed, all_passed, not_refused, is_so, ancestor_is, is_there}
+use Rattle.ns_edits.proofs.Admitted.{all_passed, not_refused, is_so, ancestor_is, is_there}
 use Rattle.std.proofs.lemmas.Bool.{or_parts}
 use Rattle.ns_tree.proofs.Sound.{raised_dir}
 use Rattle.ns_edits.proofs.Sources.{blocks_append}

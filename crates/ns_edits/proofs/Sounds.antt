@@ -1,11 +1,10 @@
 -- An entry, and so a log, keeps what holds of every namespace.
-use Rattle.std.proofs.Common.{◌≡◌, ℕ, ◌+◌, List, [], ◌∷◌, length, Option, Some, None, refl, sym, ap, ◌∙◌, subst, arith}
-use Rattle.std.specs.List.{AllByRecursion}
+use Rattle.std.proofs.Common.{◌≡◌, ℕ, ◌+◌, List, [], ◌∷◌, length, Option, Some, None, refl, sym, subst, arith}
 use Rattle.edit_ops.specs.Grammar.{IsEdit}
 use Rattle.ns_tree.specs.Space.{Space, IsSpace}
 use Rattle.ns_tree.specs.Places.{IsTree}
 use Rattle.ns_edits.specs.Apply.{apply_op, apply_of}
-use Rattle.ns_edits.specs.Keeps.{AreBytes, EntriesStaySound, SpacesStaySound}
+use Rattle.ns_edits.specs.Keeps.{EntriesStaySound, SpacesStaySound}
 use Rattle.ns_edits.specs.Replay.{entered, goes_on, replay_from}
 use Rattle.ns_edits.proofs.Admitted.{good_by, op_admitted}
 use Rattle.ns_edits.proofs.Calls.{Entered, entered_is}

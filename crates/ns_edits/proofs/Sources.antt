@@ -1,6 +1,6 @@
 -- The sources of a concat, one by one: which paths were listed before one of them, and how many
 -- blocks there are.
-use Rattle.std.proofs.Common.{◌≡◌, ℕ, suc, Option, Some, None, drop-cons, nat_lt, ◌+◌, ◌<◌, ◌≤◌, List, [], ◌∷◌, ◌++◌, length, take, drop, get_or}
+use Rattle.std.proofs.Common.{◌≡◌, ℕ, suc, Some, None, drop-cons, nat_lt, ◌+◌, ◌<◌, ◌≤◌, List, [], ◌∷◌, ◌++◌, length, take, drop, get_or}
 use Rattle.std.proofs.Common.{add-one, append-nil, Bool, true, false, refl, sym, ap, ◌∙◌, append_assoc, length-append, arith}
 use Rattle.std.specs.Prelude.{◌||◌}
 use Rattle.std.specs.List.{list_any}

@@ -1,6 +1,6 @@
 -- The edit whose record some bytes are, as a function: the opcode tells the kind, and the fields
 -- are read in order.
-use Rattle.std.specs.Prelude.{ℕ, ◌-◌, ◌==◌, List, [], ◌∷◌, drop, map, slice_index_or, Option, Some, None, Result, Ok, Err, Bool, true, false, nat_lt, if◌then◌else◌}
+use Rattle.std.specs.Prelude.{ℕ, ◌-◌, ◌==◌, List, [], ◌∷◌, Option, Some, None, Result, Ok, Err, Bool, true, false, nat_lt, if◌then◌else◌}
 use Rattle.edit_ops.specs.declared.kind.OpKind.{OpKind}
 use Rattle.edit_ops.specs.declared.kind.OpKind.TheVariants as kinds
 use Rattle.edit_ops.specs.declared.field_fault.FieldFault.{FieldFault}

@@ -1,14 +1,13 @@
 -- Worked logs: what they replay to.
-use Rattle.std.specs.Prelude.{ℕ, true, false, List, [], ◌∷◌, ◌++◌, map, codes, replicate, Option, Some, None}
+use Rattle.std.specs.Prelude.{ℕ, true, false, List, [], ◌∷◌, ◌++◌, map, codes, replicate, Some, None}
 use Rattle.edit_ops.specs.declared.call.Call.{Call}
 use Rattle.edit_ops.specs.declared.op.Op.{Op}
 use Rattle.edit_ops.specs.declared.op.Op.TheVariants.{Add, RenameOld, Delete, Mkdir, SetReplication, SetPermissions, SetOwner, Close, Times, SetQuota}
 use Rattle.edit_ops.specs.declared.op.Op.TheVariants.{Rename, ConcatDelete, EndLogSegment, StartLogSegment}
 use Rattle.edit_ops.specs.Records.{EditView, record_of}
 use Rattle.ns_tree.specs.declared.inode.Inode.TheVariants.{Dir, File}
-use Rattle.ns_tree.specs.declared.inode.Noted.{Noted}
 use Rattle.ns_tree.specs.declared.inode.Row.{Row}
-use Rattle.ns_tree.specs.Space.{Space, pair, root_pair}
+use Rattle.ns_tree.specs.Space.{Space, pair}
 
 abbrev pub plain : Op → EditView
 plain op = record { op = op; call = None }

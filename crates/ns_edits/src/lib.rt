@@ -2,7 +2,6 @@
 #![tactic(auto)]
 
 mod admitting;
-mod aiming;
 mod applying;
 mod entry_error;
 mod examples;
@@ -12,7 +11,6 @@ mod replayed;
 mod replaying;
 
 pub use admitting::admit;
-pub use aiming::aim;
 pub use applying::apply;
 pub use examples::{a_known_log_replays, calls_are_noted, every_kind_replays};
 pub use laws::{

@@ -11,7 +11,6 @@ ghost use Rattle.ns_edits.specs.EntryErrors.{IsEntryError};
 ghost use Rattle.ns_edits.specs.Replay.{edit_entered, entered, IsReplayed};
 
 use crate::admitting::admit;
-use crate::aiming::aim;
 use crate::applying::apply;
 use crate::entry_error::EntryError;
 use crate::replayed::Replayed;
@@ -68,7 +67,6 @@ fn enter_edit(alloc: Global, ns: &mut Namespace, edit: Edit, txid: u64) -> Resul
     ensures memory { result ≡ Err errors.Memory → admit_of ns.old edit ≡ None }
     ensures free { is_free edit.op ≡ true → result ≢ Err errors.Memory }
 {
-    aim(ns, &edit);
     match admit(ns, &edit) {
         Ok(()) => {
             apply(alloc, ns, edit, txid)?;

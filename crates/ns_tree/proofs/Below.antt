@@ -19,6 +19,7 @@ use Rattle.ns_tree.specs.Branches.{IsLed, IsFrom, IsBelow, IsBranch, below, is_n
 use Rattle.ns_tree.proofs.Finds.{or_in, find_append}
 use Rattle.ns_tree.proofs.Order.{not_same_before}
 use Rattle.ns_tree.proofs.Place.{find_none}
+use Rattle.ns_tree.proofs.Tails.{same_prefix}
 use Rattle.ns_tree.proofs.TwoNames.{rank_cmp}
 use Rattle.ns_tree.proofs.UnderPaths.{prefix_cmp}
 use Rattle.ns_tree.proofs.Walks.{each_append, each_imp}
@@ -85,13 +86,13 @@ rows_from xs b = subst (λ (ys : List Row). Each (λ x. IsFrom x.path) ys) (sym 
 
 -- ## What is below one name
 
-pub prefix_same : (s u v : List ℕ) → same_text (s ++ u) (s ++ v) ≡ same_text u v
-prefix_same [] u v = refl
-prefix_same (x ∷ xs) u v = let rest = prefix_same xs u v in grind (arith, nat_tests)
-
 pub find_below : (n r : List ℕ) (xs : List Row) → find (47 ∷ n ++ r) (map (below n) xs) ≡ find r xs
 find_below n r [] = refl
-find_below n r (x ∷ xs) = rw (prefix_same (47 ∷ n) r x.path, find_below n r xs) refl
+find_below n r (x ∷ xs) = rw (same_prefix (47 ∷ n) r x.path, find_below n r xs) refl
+
+pub led_more : (r q : List ℕ) → IsLed r → IsLed q → IsLed (r ++ q)
+led_more [] q a b = b
+led_more (c ∷ cs) q a b = a
 
 pub led_from : (p : List ℕ) → IsFrom p → IsLed p
 led_from [] h = tt

@@ -11,7 +11,8 @@ use Rattle.ns_tree.specs.declared.inode.Row.{Row}
 use Rattle.ns_tree.specs.Path.{walk_cmp, same_text, has_slash, begins_with, stem, is_under, is_at_or_under, part_under}
 use Rattle.ns_tree.specs.Space.{Each, without}
 use Rattle.ns_tree.specs.Branches.{IsLed, IsFrom, below, is_named, grown, AreBranches}
-use Rattle.ns_tree.proofs.Below.{rows_from, AreLater, AreInOrder, led_from, below_decide, earlier_name, prefix_same}
+use Rattle.ns_tree.proofs.Tails.{same_prefix}
+use Rattle.ns_tree.proofs.Below.{led_more, rows_from, AreLater, AreInOrder, led_from, below_decide, earlier_name}
 use Rattle.ns_tree.proofs.BelowEdits.{Skips, Ends, edited, removed}
 use Rattle.ns_tree.proofs.Order.{walk_cmp_self, same_text_self, not_same_before, not_same_after}
 use Rattle.ns_tree.proofs.TwoNames.{split_under}
@@ -31,10 +32,6 @@ stem_from (b ∷ c ∷ bs) h = refl
 pub long_below : (n r : List ℕ) → 0 < length n → 1 < length (47 ∷ n ++ r)
 long_below n r h = let sizes = length-append n r in omega (arith, h, sizes)
 
-led_more : (r t : List ℕ) → IsLed r → IsLed (r ++ 47 ∷ t)
-led_more [] t h = refl
-led_more (b ∷ bs) t h = h
-
 -- what is under a path below one name is below no later name
 pub other_under : (m n r a : List ℕ) → 0 < length n → has_slash m ≡ false → has_slash n ≡ false → IsLed r → IsLed a → slice_cmp nat_cmp n m ≡ Less
     → is_under (47 ∷ n ++ r) (47 ∷ m ++ a) ≡ false
@@ -45,7 +42,7 @@ other_under m n r a some e f lr la h = not_true (is_under (47 ∷ n ++ r) (47 �
         let own = stem_long (47 ∷ n ++ r) (long_below n r some) in
         let whole : 47 ∷ m ++ a ≡ 47 ∷ n ++ (r ++ 47 ∷ t) =
         split ∙ ap (λ (w : List ℕ). (w ++ 47 ∷ []) ++ t) own ∙ append_assoc (47 ∷ n ++ r) (47 ∷ []) t ∙ append_assoc (47 ∷ n) r (47 ∷ t) in
-        let less : walk_cmp (47 ∷ n ++ (r ++ 47 ∷ t)) (47 ∷ m ++ a) ≡ Less = below_decide n m (r ++ 47 ∷ t) a f e (led_more r t lr) la h in
+        let less : walk_cmp (47 ∷ n ++ (r ++ 47 ∷ t)) (47 ∷ m ++ a) ≡ Less = below_decide n m (r ++ 47 ∷ t) a f e (led_more r (47 ∷ t) lr refl) la h in
         let tied = walk_cmp_self (47 ∷ m ++ a) in
         cc (sym tied ∙ ap (λ (w : List ℕ). walk_cmp w (47 ∷ m ++ a)) whole ∙ less)
 
@@ -105,7 +102,7 @@ same_inside n r a some long h =
     let under : is_under (47 ∷ n ++ r) (47 ∷ n ++ a) ≡ is_under r a =
     rw (stem_long (47 ∷ n ++ r) (long_below n r some), stem_long (47 ∷ n ++ a) (long_below n a some), stem_long r long, stem_from a h)
     (ap (λ (w : List ℕ). begins_with w (47 ∷ n ++ a)) (append_assoc (47 ∷ n) r (47 ∷ [])) ∙ begins_prefix (47 ∷ n) (r ++ 47 ∷ []) a) in
-    rw (prefix_same (47 ∷ n) r a, under) refl
+    rw (same_prefix (47 ∷ n) r a, under) refl
 
 pub cut_below : (n r : List ℕ) (xs : List Row) → 0 < length n → 1 < length r → Each (λ x. IsFrom x.path) xs → without (47 ∷ n ++ r) (map (below n) xs) ≡ map (below n) (without r xs)
 cut_below n r [] some long l = refl

@@ -12,7 +12,8 @@ use Rattle.ns_tree.specs.declared.inode.Row.{Row}
 use Rattle.ns_tree.specs.Path.{walk_cmp, same_text, has_slash}
 use Rattle.ns_tree.specs.Space.{Each, pair, change_at, put_at, pairs_before, pairs_after}
 use Rattle.ns_tree.specs.Branches.{IsLed, IsFrom, IsBranch, below, is_named, grown, AreBranches}
-use Rattle.ns_tree.proofs.Below.{rows_from, AreLater, AreInOrder, later_still, name_same, turned_name, earlier_name, after_name, prefix_same}
+use Rattle.ns_tree.proofs.Tails.{same_prefix}
+use Rattle.ns_tree.proofs.Below.{rows_from, AreLater, AreInOrder, later_still, name_same, turned_name, earlier_name, after_name}
 use Rattle.ns_tree.proofs.Place.{change_before, change_after, change_parts, before_kept, before_none, after_kept, after_none}
 use Rattle.ns_tree.proofs.UnderPaths.{prefix_cmp}
 
@@ -149,7 +150,7 @@ module _ {K X : Type 0} (name : K → List ℕ) (rows : X → List Row) (n : Lis
 
 pub change_below : (n r : List ℕ) (f : Inode → Inode) (xs : List Row) → change_at (47 ∷ n ++ r) f (map (below n) xs) ≡ map (below n) (change_at r f xs)
 change_below n r f [] = refl
-change_below n r f (x ∷ xs) = rw (prefix_same (47 ∷ n) r x.path, change_below n r f xs) (by (same_text r x.path))
+change_below n r f (x ∷ xs) = rw (same_prefix (47 ∷ n) r x.path, change_below n r f xs) (by (same_text r x.path))
   where
     by : (z : Bool) → cond z (pair (47 ∷ n ++ x.path) (f x.inode)) (below n x) ∷ map (below n) (change_at r f xs)
         ≡ below n (cond z (pair x.path (f x.inode)) x) ∷ map (below n) (change_at r f xs)

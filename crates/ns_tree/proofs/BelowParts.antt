@@ -32,15 +32,6 @@ pub from_name : (n a : List ℕ) → 0 < length n → IsFrom (47 ∷ n ++ a)
 from_name [] a some = absurd (omega arith)
 from_name (b ∷ bs) a some = (refl, omega arith)
 
-each_below : (n : List ℕ) (xs : List Row) → 0 < length n → Each (λ x. IsFrom x.path) (map (below n) xs)
-each_below n [] some = tt
-each_below n (x ∷ xs) some = (from_name n x.path some, each_below n xs some)
-
--- all rows of a branch go from there
-pub all_from : {K X : Type 0} (name : K → List ℕ) (rows : X → List Row) (es : List (K × X)) → AreBranches name rows es → Each (λ x. IsFrom x.path) (grown name rows es)
-all_from name rows [] b = tt
-all_from name rows (e ∷ es) b = each_append (λ x. IsFrom x.path) (map (below (name e.0)) (rows e.1)) (grown name rows es) (each_below (name e.0) (rows e.1) b.0) (all_from name rows es b.3)
-
 below_name : (n a : List ℕ) → 0 < length n → IsBelow (47 ∷ n ++ a)
 below_name n a some = (n ++ a, refl, (from_name n a some).1)
 
@@ -161,7 +152,8 @@ module _ {K X : Type 0} (name : K → List ℕ) (rows : X → List Row) (n r : L
           rw (inner, none) (append-nil (map (below n) (subtree r (rows e.1))) ∙ ap (λ (w : X). map (below n) (subtree r (rows w))) here)
       by Greater is th more =
           let none : subtree (47 ∷ n ++ r) (map (below (name e.0)) (rows e.1)) ≡ [] =
-          filter_out (λ x. is_at_or_under (47 ∷ n ++ r) x.path) (map (below (name e.0)) (rows e.1)) (outside_earlier (name e.0) (rows e.1) b.1 (rows_from (rows e.1) b.2) (turned_name (name e.0) n is)) in
+          filter_out (λ x. is_at_or_under (47 ∷ n ++ r) x.path) (map (below (name e.0)) (rows e.1)) (outside_earlier (name e.0) (rows e.1) b.1 (rows_from (rows e.1) b.2) (turned_name (name e.0) n
+          is)) in
           rw none (more (rw is at th))
 
   -- ## What takes the place of all at or under a path

@@ -11,7 +11,7 @@ use Rattle.ns_tree.specs.declared.inode.Row.{Row}
 use Rattle.ns_tree.specs.Path.{has_slash, is_at_or_under}
 use Rattle.ns_tree.specs.Space.{Each, pair, without, subtree, put, put_at, change_at}
 use Rattle.ns_tree.specs.Branches.{IsLed, IsFrom, IsBranch, below, from_path, is_named, grown, AreBranches}
-use Rattle.ns_tree.proofs.Below.{rows_from, in_order}
+use Rattle.ns_tree.proofs.Below.{led_more, rows_from, in_order}
 use Rattle.ns_tree.proofs.BelowEdits.{made_in}
 use Rattle.ns_tree.proofs.BelowCuts.{keep_all, outside_before, cut_in, cut_entry}
 use Rattle.ns_tree.proofs.BelowParts.{all_below, entry_from, own_path, below_path, filter_all_from, filter_out, sub_in, without_all, settled_in}
@@ -83,11 +83,7 @@ module _ {K X : Type 0} (name : K → List ℕ) (rows : X → List Row) (i : Ino
     make_entry q f j w lq made =
         ap (λ (u : List ℕ). change_at u f (put (u ++ q) j (branch name rows i es))) is
         ∙ ap (λ (u : List ℕ). change_at (47 ∷ n ++ r) f (put u j (branch name rows i es))) (append_assoc (47 ∷ n) r q)
-        ∙ ap (λ (ys : List Row). pair [] i ∷ ys) (made_in name rows n r (r ++ q) f (pair (r ++ q) j ∷ []) plain led (led_parts r q led lq) es b (in_order name rows es o) v w there made)
-      where
-        led_parts : (r q : List ℕ) → IsLed r → IsLed q → IsLed (r ++ q)
-        led_parts [] q a b = b
-        led_parts (c ∷ cs) q a b = a
+        ∙ ap (λ (ys : List Row). pair [] i ∷ ys) (made_in name rows n r (r ++ q) f (pair (r ++ q) j ∷ []) plain led (led_more r q led lq) es b (in_order name rows es o) v w there made)
 
   -- the entry of a name goes
   pub cut_own : (p n : List ℕ) (es : List (K × X)) → p ≡ 47 ∷ n ++ [] → has_slash n ≡ false → AreBranches name rows es → AreSorted name rows i es

@@ -1,5 +1,6 @@
 -- What is told of all rows of a branch, entry by entry.
-use Rattle.std.proofs.Common.{◌≡◌, take, ◌==◌, ℕ, ◌<◌, ◌≤◌, ◌+◌, List, [], ◌∷◌, ◌++◌, length, map, refl, sym, ◌∙◌, ap, subst, arith, Bool, true, false, cond, append_assoc, append-nil, length-append, max}
+use Rattle.std.proofs.Common.{◌≡◌, take, ◌==◌, ℕ, ◌<◌, ◌≤◌, ◌+◌, List, [], ◌∷◌, ◌++◌, length, map, refl, sym, ◌∙◌, ap, subst}
+use Rattle.std.proofs.Common.{arith, Bool, true, false, cond, append_assoc, append-nil, length-append, max}
 use Rattle.std.specs.Prelude.{◌||◌, nat_lt}
 use Rattle.std.specs.declared.cmp.Ordering.{Ordering}
 use Rattle.std.specs.declared.cmp.Ordering.TheVariants.{Less, Equal, Greater}
@@ -12,6 +13,7 @@ use Rattle.ns_tree.specs.declared.inode.Row.{Row}
 use Rattle.ns_tree.specs.Path.{has_slash, is_under}
 use Rattle.ns_tree.specs.Space.{Each, pair, has_under, names_under, longest_of}
 use Rattle.ns_tree.specs.Branches.{IsBelow, IsBranch, below, from_path, grown, AreBranches, at_root, rooted}
+use Rattle.ns_tree.proofs.Rooted.{parts_rooted}
 
 -- the rows of a first entry and of the rest
 module _ {K X : Type 0} (name : K → List ℕ) (rows : X → List Row) (e : K × X) (es : List (K × X)) where
@@ -84,12 +86,8 @@ path_parts p n (x ∷ xs) ys =
     ap (λ (w : List ℕ). pair w x.inode ∷ map (from_path p) (map (below n) xs ++ ys)) (sym (append_assoc p (47 ∷ n) x.path))
     ∙ ap (λ (zs : List Row). pair ((p ++ 47 ∷ n) ++ x.path) x.inode ∷ zs) (path_parts p n xs ys)
 
-root_parts : (xs ys : List Row) → rooted (xs ++ ys) ≡ rooted xs ++ rooted ys
-root_parts [] ys = refl
-root_parts (x ∷ xs) ys = ap (λ (zs : List Row). at_root x ∷ zs) (root_parts xs ys)
-
 pub walk_entry : (p n : List ℕ) (xs ys : List Row) → rooted (map (from_path p) (map (below n) xs ++ ys)) ≡ rooted (map (from_path (p ++ 47 ∷ n)) xs) ++ rooted (map (from_path p) ys)
-walk_entry p n xs ys = ap rooted (path_parts p n xs ys) ∙ root_parts (map (from_path (p ++ 47 ∷ n)) xs) (map (from_path p) ys)
+walk_entry p n xs ys = ap rooted (path_parts p n xs ys) ∙ parts_rooted (map (from_path (p ++ 47 ∷ n)) xs) (map (from_path p) ys)
 
 -- ## The first of the entries that are left
 
@@ -159,6 +157,7 @@ module _ {K X : Type 0} (name : K → List ℕ) (rows : X → List Row) (left : 
       ∙ h
 
 -- whether something stands below a branch
-pub kids_under : {K X : Type 0} (name : K → List ℕ) (rows : X → List Row) (i : Inode) (es : List (K × X)) → AreBranches name rows es → nat_lt 0 (length es) ≡ has_under [] (pair [] i ∷ grown name rows es)
+pub kids_under : {K X : Type 0} (name : K → List ℕ) (rows : X → List Row) (i : Inode) (es : List (K × X)) → AreBranches name rows es → nat_lt 0 (length es) ≡ has_under [] (pair [] i ∷ grown name rows
+    es)
 kids_under name rows i [] b = refl
 kids_under name rows i (e ∷ es) b = let some : nat_lt 0 (length (e ∷ es)) ≡ true = grind (arith, nat_tests) in some ∙ sym (under_entry (name e.0) (rows e.1) (grown name rows es) b.0 b.2)

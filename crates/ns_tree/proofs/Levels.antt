@@ -1,5 +1,31 @@
 -- One level of a branch: what is found and left there, by the entry of a path's first name.
-use Rattle.std.proofs.Common.{◌≡◌, ◌==◌, ℕ, ◌<◌, List, [], ◌∷◌, ◌++◌, length, map, refl, sym, ◌∙◌, ap, subst, arith, Bool, true, false, Option, Some, None, append_assoc, append-nil, length-append}
+use Rattle.std.proofs.Common.{
+  ◌≡◌,
+  ◌==◌,
+  ℕ,
+  ◌<◌,
+  List,
+  [],
+  ◌∷◌,
+  ◌++◌,
+  length,
+  map,
+  refl,
+  sym,
+  ◌∙◌,
+  ap,
+  subst,
+  arith,
+  Bool,
+  true,
+  false,
+  Option,
+  Some,
+  None,
+  append_assoc,
+  append-nil,
+  length-append,
+}
 use Rattle.std.proofs.lemmas.List.{length-map}
 use Rattle.std.specs.Prelude.{IsSome, IfNone, cond, ◌+◌, ◌≤◌}
 use Rattle.std.specs.Map.{lookup, set_value, remove_entry}
@@ -9,13 +35,14 @@ use Rattle.std.specs.Cmp.Lexicographic.{slice_cmp}
 use Rattle.std.proofs.lemmas.Bool.Decides.{nat_tests}
 use Rattle.ns_tree.specs.declared.inode.Inode.{Inode}
 use Rattle.ns_tree.specs.declared.inode.Row.{Row}
-use Rattle.ns_tree.specs.Path.{has_slash}
-use Rattle.ns_tree.specs.Space.{pair, find, without, subtree, put, put_at, change_at}
+use Rattle.ns_tree.specs.Path.{has_slash, before_last_slash}
+use Rattle.ns_tree.specs.Space.{pair, find, is_dir, is_dir_there, without, subtree, put, put_at, change_at}
 use Rattle.ns_tree.specs.Branches.{IsLed, IsFrom, IsBranch, below, from_path, is_named, grown, AreBranches, found_in}
-use Rattle.ns_tree.proofs.Below.{rows_from, in_order}
+use Rattle.ns_tree.proofs.Below.{led_more, rows_from, in_order}
 use Rattle.ns_tree.proofs.BelowEdits.{some_same, edited, kept_set, kept_remove, kept_insert}
 use Rattle.ns_tree.proofs.BelowParts.{entry_from, from_found}
 use Rattle.ns_tree.proofs.Branched.{branch, AreSorted, find_in, change_own, change_entry, change_none}
+use Rattle.ns_tree.proofs.Tails.{last_slash_later}
 use Rattle.ns_tree.proofs.BranchedParts.{at_own, at_entry, settle_entry, cut_rest, cut_own, make_entry, make_own}
 
 -- ## Empty texts
@@ -100,10 +127,6 @@ none_then (Some x) f h = tt
 pub entries_same : {K X : Type 0} (m n : BTreeMap K X) → m ≡ n → m.entries ≡ n.entries
 entries_same {K} {X} m n e = ap (λ (q : BTreeMap K X). q.entries) e
 
-led_more : (r q : List ℕ) → IsLed r → IsLed q → IsLed (r ++ q)
-led_more [] q a b = b
-led_more (c ∷ cs) q a b = a
-
 module _ {K X : Type 0} (name : K → List ℕ) (rows : X → List Row) (i : Inode) (es : List (K × X)) (now : List Row) (view : branch name rows i es ≡ now)
     (b : AreBranches name rows es) (o : AreSorted name rows i es) (p n r : List ℕ) (is : p ≡ 47 ∷ n ++ r) (plain : has_slash n ≡ false) (led : IsLed r) where
   whole : found_in name rows r (lookup (λ k. is_named n (name k)) es) ≡ find p now
@@ -160,7 +183,8 @@ module _ {K X : Type 0} (name : K → List ℕ) (rows : X → List Row) (i : Ino
       pub entry_same : rows w ≡ rows v → branch name rows i zs ≡ now
       entry_same same =
           ap (branch name rows i) written
-          ∙ ap (λ (ys : List Row). pair [] i ∷ ys) (sym (edited name rows n (λ xs. xs) (λ m u xs e l less. refl) (λ ys xs c l. refl) es b (in_order name rows es o) v w there (ap (map (below n)) (sym same))))
+          ∙ ap (λ (ys : List Row). pair [] i ∷ ys) (sym (edited name rows n (λ xs. xs) (λ m u xs e l less. refl) (λ ys xs c l. refl) es b (in_order name rows es o) v w there (ap (map (below n)) (sym
+          same))))
           ∙ view
 
       pub entry_cut : 1 < length r → rows w ≡ without r (rows v) → branch name rows i zs ≡ without p now
@@ -194,3 +218,35 @@ module _ {K X : Type 0} (name : K → List ℕ) (rows : X → List Row) (i : Ino
 
   pub gone_kept : (zs : List (K × X)) → zs ≡ remove_entry (λ k. is_named n (name k)) es → AreBranches name rows zs
   gone_kept zs removed = subst (λ (ys : List (K × X)). AreBranches name rows ys) (sym removed) (kept_remove name rows (λ k. is_named n (name k)) es b)
+
+-- ## Right above a path
+
+above_first : (n r : List ℕ) → has_slash n ≡ false → r ≡ [] → before_last_slash (47 ∷ n ++ r) ≡ []
+above_first n r plain last = rw (last, append-nil n, plain) refl
+
+led_slash : (r : List ℕ) → IsLed r → 0 < length r → has_slash r ≡ true
+led_slash [] l h = absurd (omega arith)
+led_slash (b ∷ bs) l h = let slash : b ≡ 47 = l in rw slash refl
+
+led_above : (r : List ℕ) → IsLed r → IsLed (before_last_slash r)
+led_above [] l = tt
+led_above (b ∷ bs) l = by (has_slash bs)
+  where
+    by : (z : Bool) → IsLed (cond z (b ∷ before_last_slash bs) [])
+    by true = l
+    by false = tt
+
+module _ {K X : Type 0} (name : K → List ℕ) (rows : X → List Row) (i : Inode) (es : List (K × X)) (now : List Row) (view : branch name rows i es ≡ now)
+    (b : AreBranches name rows es) (o : AreSorted name rows i es) (p n r : List ℕ) (is : p ≡ 47 ∷ n ++ r) (plain : has_slash n ≡ false) (led : IsLed r) where
+  pub look_own : r ≡ [] → is_dir i ≡ is_dir_there (find (before_last_slash p) now)
+  look_own last = ap is_dir_there (own_found name rows i es now view (before_last_slash p) (ap before_last_slash is ∙ above_first n r plain last))
+
+  module _ (more : 0 < length r) where
+    above : before_last_slash p ≡ 47 ∷ n ++ before_last_slash r
+    above = ap before_last_slash is ∙ last_slash_later (47 ∷ n) r (led_slash r led more)
+
+    pub look_none : lookup (λ k. is_named n (name k)) es ≡ None → false ≡ is_dir_there (find (before_last_slash p) now)
+    look_none h = sym (ap is_dir_there (none_found name rows i es now view b o (before_last_slash p) n (before_last_slash r) above plain (led_above r led) h))
+
+    pub look_entry : (v : X) → lookup (λ k. is_named n (name k)) es ≡ Some v → is_dir_there (find (before_last_slash r) (rows v)) ≡ is_dir_there (find (before_last_slash p) now)
+    look_entry v there = ap is_dir_there (entry_at name rows i es now view b o (before_last_slash p) n (before_last_slash r) above plain (led_above r led) v there)

@@ -75,6 +75,10 @@ led_stem [] l = tt
 led_stem (b ∷ []) l = let e : b ≡ 47 = l in rw e tt
 led_stem (b ∷ c ∷ bs) l = l
 
+pub parts_rooted : (xs ys : List Row) → rooted (xs ++ ys) ≡ rooted xs ++ rooted ys
+parts_rooted [] ys = refl
+parts_rooted (x ∷ xs) ys = ap (λ (zs : List Row). at_root x ∷ zs) (parts_rooted xs ys)
+
 -- ## What is found, changed, put and cut
 
 module _ (p : List ℕ) (some : 0 < length p) (led : IsLed p) where
@@ -98,10 +102,6 @@ module _ (p : List ℕ) (some : 0 < length p) (led : IsLed p) where
       by : (z : Bool) → cond z (at_root x ∷ rooted (filter g xs)) (rooted (filter g xs)) ≡ rooted (cond z (x ∷ filter g xs) (filter g xs))
       by true = refl
       by false = refl
-
-  parts_rooted : (xs ys : List Row) → rooted (xs ++ ys) ≡ rooted xs ++ rooted ys
-  parts_rooted [] ys = refl
-  parts_rooted (x ∷ xs) ys = ap (λ (zs : List Row). at_root x ∷ zs) (parts_rooted xs ys)
 
   pub put_rooted : (new xs : List Row) → Each (λ x. IsFrom x.path) xs → put_at p (rooted new) (rooted xs) ≡ rooted (put_at (stem p) new xs)
   put_rooted new xs e =

@@ -6,7 +6,8 @@ use Rattle.ns_tree.specs.Path.{same_text, begins_with, stem, path_of_stem, is_un
 use Rattle.ns_tree.specs.Space.{Each, pair, find, subtree, has_under, names_under, children_of, is_dir_there, longest_of}
 use Rattle.ns_tree.specs.Last.{last_path}
 use Rattle.ns_tree.specs.Branches.{IsFrom, IsBelow, IsBranch, from_path, rooted}
-use Rattle.ns_tree.proofs.Below.{rows_from, prefix_same}
+use Rattle.ns_tree.proofs.Tails.{same_prefix}
+use Rattle.ns_tree.proofs.Below.{rows_from}
 use Rattle.ns_tree.proofs.BelowParts.{own_path}
 use Rattle.ns_tree.proofs.Moves.{rooted_path}
 use Rattle.ns_tree.proofs.Walks.{each_filter}
@@ -49,7 +50,7 @@ same_whole (b ∷ []) some from x f = by (b == 47) refl from
         slash : (b == 47) ≡ true → b ≡ 47
         slash e = grind (arith, nat_tests)
     by false is from = absurd (omega (arith, from.1))
-same_whole (b ∷ c ∷ bs) some from x f = ap (λ (w : List ℕ). same_text w ((b ∷ c ∷ bs) ++ x.path)) (sym (append-nil (b ∷ c ∷ bs))) ∙ prefix_same (b ∷ c ∷ bs) [] x.path
+same_whole (b ∷ c ∷ bs) some from x f = ap (λ (w : List ℕ). same_text w ((b ∷ c ∷ bs) ++ x.path)) (sym (append-nil (b ∷ c ∷ bs))) ∙ same_prefix (b ∷ c ∷ bs) [] x.path
 
 map_both : (s : List ℕ) (xs : List Row) → rooted (map (from_path s) xs) ≡ map (λ x. pair (path_of_stem (s ++ x.path)) x.inode) xs
 map_both s [] = refl
@@ -112,7 +113,8 @@ module _ (p : List ℕ) (some : 0 < length p) (from : IsFrom (stem p)) (now part
       ∙ names_by p (λ x. pair (path_of_stem (stem p ++ x.path)) x.inode) (under_whole p some from) (part_whole p some from) part (rows_from part b)
 
   pub stands_found : find p now ≡ Some b.0
-  stands_found = part_found p now ∙ ap (find p) whole ∙ ap (λ (ys : List Row). find p (map (λ x. pair (path_of_stem (stem p ++ x.path)) x.inode) ys)) b.2 ∙ (rw (same_whole p some from (pair [] b.0) tt) refl)
+  stands_found = part_found p now ∙ ap (find p) whole ∙ ap (λ (ys : List Row). find p (map (λ x. pair (path_of_stem (stem p ++ x.path)) x.inode) ys)) b.2 ∙ (rw (same_whole p some from (pair [] b.0)
+      tt) refl)
 
   pub stands_longest : longest_of (subtree p now) ≡ max (length p) (length (stem p) + longest_of part)
   stands_longest = ap longest_of is ∙ longest_whole p some from part b

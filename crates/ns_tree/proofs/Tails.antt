@@ -101,7 +101,7 @@ slash_later : (p w : List ℕ) → has_slash w ≡ true → has_slash (p ++ w) �
 slash_later [] w h = h
 slash_later (x ∷ xs) w h = or_right (x == 47) (has_slash (xs ++ w)) (slash_later xs w h)
 
-last_slash_later : (p w : List ℕ) → has_slash w ≡ true → before_last_slash (p ++ w) ≡ p ++ before_last_slash w
+pub last_slash_later : (p w : List ℕ) → has_slash w ≡ true → before_last_slash (p ++ w) ≡ p ++ before_last_slash w
 last_slash_later [] w h = refl
 last_slash_later (x ∷ xs) w h = rw (slash_later xs w h) (ap (λ (l : List ℕ). x ∷ l) (last_slash_later xs w h))
 

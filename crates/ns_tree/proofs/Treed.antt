@@ -1,5 +1,6 @@
 -- A tree: its root's branch by whole paths, and how many rows it has.
-use Rattle.std.proofs.Common.{◌≡◌, ◌==◌, ℕ, suc, ◌<◌, ◌+◌, List, [], ◌∷◌, ◌++◌, length, map, filter, drop, refl, sym, ◌∙◌, ap, subst, arith, Bool, true, false, cond, Some, None, append_assoc, length-append, add-one, get_or, ◌&&◌}
+use Rattle.std.proofs.Common.{◌≡◌, ◌==◌, ℕ, suc, ◌<◌, ◌+◌, List, [], ◌∷◌, ◌++◌, length, map, filter, drop, refl, sym, ◌∙◌, ap, subst, arith}
+use Rattle.std.proofs.Common.{Bool, true, false, cond, Some, None, append_assoc, length-append, add-one, get_or, ◌&&◌}
 use Rattle.std.specs.Prelude.{not}
 use Rattle.std.specs.declared.cmp.Ordering.{Ordering}
 use Rattle.std.specs.declared.cmp.Ordering.TheVariants.{Less, Equal, Greater}
@@ -217,6 +218,12 @@ put_all q path b i f xs e =
 
 pub found_below : (q : List ℕ) → is_path q ≡ true → Below q → (xs : List Row) → Each (λ x. IsFrom x.path) xs → find q (rooted xs) ≡ find q xs
 found_below q path b xs e = let whole = path_rooted q path in find_rooted q whole.0 whole.1 xs e ∙ ap (λ (w : List ℕ). find w xs) (stem_same q b)
+
+pub found_above : (q : List ℕ) → is_path q ≡ true → Below q → (xs : List Row) → Each (λ x. IsFrom x.path) xs → find (parent_of q) (rooted xs) ≡ find (before_last_slash q) xs
+found_above q path b xs e =
+    let up = above q path b in
+    let whole = parent_rooted q path b up.1 in
+    find_rooted (parent_of q) whole.0 whole.1 xs e ∙ ap (λ (w : List ℕ). find w xs) up.0
 
 pub without_below_root : (q : List ℕ) → is_path q ≡ true → Below q → (xs : List Row) → Each (λ x. IsFrom x.path) xs → without q (rooted xs) ≡ rooted (without q xs)
 without_below_root q path b xs e = let whole = path_rooted q path in without_rooted q whole.0 whole.1 xs e ∙ ap (λ (w : List ℕ). rooted (without w xs)) (stem_same q b)

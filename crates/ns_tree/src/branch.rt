@@ -3,9 +3,9 @@ ghost use Rattle.std.specs.Prelude.{◌≡◌, ◌∷◌, IfOk, ◌++◌, ◌<�
 ghost use Rattle.std.specs.Fn.{FnOnceReturnsAtMut};
 ghost use Rattle.ns_tree.specs.declared.inode.Inode.{Inode};
 ghost use Rattle.std.specs.Ordering.{is_lt};
-ghost use Rattle.ns_tree.specs.Path.{has_slash, walk_cmp};
+ghost use Rattle.ns_tree.specs.Path.{has_slash, before_last_slash, walk_cmp};
 ghost use Rattle.ns_tree.specs.Last.{last_path};
-ghost use Rattle.ns_tree.specs.Space.{Each, pair, find, raise, raised, put, put_at, without, subtree, has_under, names_under, longest_of};
+ghost use Rattle.ns_tree.specs.Space.{Each, pair, find, is_dir, is_dir_there, raise, raised, put, put_at, without, subtree, has_under, names_under, longest_of};
 ghost use Rattle.ns_tree.specs.Places.{set_at};
 ghost use Rattle.ns_tree.specs.Branches.{IsLed, IsFrom, IsBranch, from_path, rooted};
 
@@ -81,6 +81,15 @@ fn first_name(path: &[u8]) -> (&[u8], &[u8])
     (&text[..end], &text[end..])
 }
 
+fn is_directory(inode: &Inode) -> bool
+    ensures { result ≡ is_dir inode.now }
+{
+    match inode {
+        Inode::Dir { .. } => true,
+        Inode::File { .. } => false,
+    }
+}
+
 fn raise_inode(inode: &mut Inode, time: u64)
     ensures { inode.new ≡ raised time inode.old }
 {
@@ -136,6 +145,24 @@ impl Branch {
         match self.kids.get(name) {
             Some(kid) => kid.find(rest),
             None => None,
+        }
+    }
+
+    /// Whether a directory is right above a path below here, and the inode at the path.
+    pub fn look(&self, path: &[u8]) -> (bool, Option<&Inode>)
+        requires led { IsLed path.now }
+        requires below { 0 < length path.now }
+        ensures above { result.0 ≡ is_dir_there (find (before_last_slash path.now) self.now) }
+        ensures there { option_copied result.1 ≡ find path.now self.now }
+    {
+        let _ = self.kids.len();
+        let (name, rest) = first_name(path);
+        if rest.is_empty() {
+            return (is_directory(&self.inode), self.find(path));
+        }
+        match self.kids.get(name) {
+            Some(kid) => kid.look(rest),
+            None => (false, None),
         }
     }
 

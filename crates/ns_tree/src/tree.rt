@@ -84,6 +84,17 @@ impl Tree {
         root.find(stem_of(path))
     }
 
+    /// Whether the directory that a path other than the root's stands in is there, and the inode at
+    /// the path.
+    pub fn look(&self, path: &[u8]) -> (bool, Option<&Inode>)
+        requires path { is_path path.now ≡ true }
+        requires not_root { is_root path.now ≡ false }
+        ensures above { result.0 ≡ is_dir_there (find (parent_of path.now) self.now) }
+        ensures there { option_copied result.1 ≡ find path.now self.now }
+    {
+        self.root.look(path)
+    }
+
     /// Raises the mtime of the directory at a path; where none is, nothing changes.
     pub fn raise(&mut self, path: &[u8], time: u64)
         ensures { self.new ≡ raise path.now time self.old }

@@ -12,7 +12,7 @@ use base_words::{Bytes, OutOfMemory};
 use edit_codec::encode_in;
 use edit_ops::Edit;
 use journal_core::{BodyList, MAX_BATCH, MAX_BODY, MAX_SEGMENT};
-use ns_edits::{AdmitRefusal, admit, aim, apply};
+use ns_edits::{AdmitRefusal, admit, apply};
 use ns_tree::Namespace;
 use std::alloc::Global;
 use std::marker::Model;
@@ -95,18 +95,10 @@ impl Pending {
         ensures at { (w : WriterView) → PendsAt w room next self.old → PendsAt w room next self.new }
         ensures memory { result ≡ Submitted.OutOfMemory → admit_of self.old.ahead edit.now ≡ None }
     {
-        self.look_at(edit);
         match admit(&self.ahead, edit) {
             Ok(()) => self.pend(alloc, room, next, edit),
             Err(refusal) => refuse(refusal),
         }
-    }
-
-    /// Has the namespace look first where an edit is. Changes nothing.
-    fn look_at(&mut self, edit: &Edit)
-        ensures { self.new ≡ self.old }
-    {
-        aim(&mut self.ahead, edit);
     }
 
     /// An edit that is admitted pends, unless it would be too long.

@@ -3,7 +3,7 @@ ghost use Rattle.std.specs.Prelude.{◌≡◌, Some};
 ghost use Rattle.std.specs.Result.{result_err};
 ghost use Rattle.ns_edits.specs.Admit.{are_within, bad_blocks, admit_add, admit_mkdir, admit_close, admit_delete, admit_set_replication, admit_set_permissions, admit_set_owner, admit_times, admit_set_quota};
 
-use crate::admitting::walks::{check_absent, check_directory, check_file, check_parent, found};
+use crate::admitting::walks::{check_directory, check_file, check_new, found};
 use crate::admitting::words::{
     check_block_size, check_new_owner, check_owner, check_path, check_permission,
     check_replication, refuse_if,
@@ -11,6 +11,7 @@ use crate::admitting::words::{
 use crate::refusal::AdmitRefusal;
 use ns_tree::{Inode, Namespace, is_root_path};
 
+#[tactic(auto, using(crate::proofs::Above::good_path))]
 pub(crate) fn check_add(
     namespace: &Namespace,
     path: &[u8],
@@ -29,10 +30,10 @@ pub(crate) fn check_add(
     check_permission(permission)?;
     check_replication(replication)?;
     check_block_size(block_size)?;
-    check_parent(namespace, path)?;
-    check_absent(namespace, path)
+    check_new(namespace, path)
 }
 
+#[tactic(auto, using(crate::proofs::Above::good_path))]
 pub(crate) fn check_mkdir(
     namespace: &Namespace,
     path: &[u8],
@@ -47,8 +48,7 @@ pub(crate) fn check_mkdir(
     check_owner(user)?;
     check_owner(group)?;
     check_permission(permission)?;
-    check_parent(namespace, path)?;
-    check_absent(namespace, path)
+    check_new(namespace, path)
 }
 
 pub(crate) fn check_close(

@@ -1,9 +1,9 @@
 //! Walks from the root: whether a path is there, and whether its parent is.
-ghost use Rattle.std.specs.Prelude.{◌≡◌, [], IfOk, Some};
+ghost use Rattle.std.specs.Prelude.{◌≡◌, ◌∷◌, [], IfOk, Some, true};
 ghost use Rattle.std.specs.Result.{result_err};
-ghost use Rattle.ns_tree.specs.Path.{stem, path_of_stem};
+ghost use Rattle.ns_tree.specs.Path.{stem, path_of_stem, is_path};
 ghost use Rattle.ns_tree.specs.Space.{find};
-ghost use Rattle.ns_edits.specs.Admit.{ancestor, ancestors, finds, has_parent, refused_there, refused_dir, refused_file};
+ghost use Rattle.ns_edits.specs.Admit.{first, ancestor, ancestors, finds, has_parent, refused_there, refused_dir, refused_file};
 
 use crate::refusal::AdmitRefusal;
 use ns_tree::{Inode, Namespace, is_root_path, parent, path_of, stem_of};
@@ -38,6 +38,27 @@ pub(crate) fn check_parent(namespace: &Namespace, path: &[u8]) -> Result<(), Adm
         return Ok(());
     }
     walk_above(namespace, path, AdmitRefusal::NoParent)
+}
+
+/// The directory of a path is there, and nothing is at the path: one descent tells both.
+#[tactic(auto, using(crate::proofs::Above::above_parent))]
+pub(crate) fn check_new(namespace: &Namespace, path: &[u8]) -> Result<(), AdmitRefusal>
+    requires { is_path path.now ≡ true }
+    ensures { result_err result
+        ≡ first (has_parent path.now namespace.now.pairs ∷ refused_there AdmitRefusal.Exists (find path.now namespace.now.pairs) ∷ []) }
+{
+    if is_root_path(path) {
+        return Err(AdmitRefusal::Root);
+    }
+    namespace.show_invariant();
+    match namespace.look(path) {
+        (true, None) => Ok(()),
+        (true, Some(_)) => Err(AdmitRefusal::Exists),
+        (false, _) => {
+            walk_above(namespace, path, AdmitRefusal::NoParent)?;
+            check_absent(namespace, path)
+        }
+    }
 }
 
 /// Nothing is at a path.

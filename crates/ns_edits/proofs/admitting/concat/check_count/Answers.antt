@@ -1,7 +1,4 @@
-use Rattle.std.proofs.Common.{◌≡◌, ◌∷◌, ◌+◌, ◌<◌, Some, length, arith, nat_lt, rules}
-use Rattle.ns_tree.specs.Space.{find}
-use Rattle.ns_edits.specs.declared.refusal.AdmitRefusal.TheVariants.{BadNumber}
-use Rattle.ns_edits.specs.Admit.{refused_if, blocks_of, blocks_at}
+use Rattle.std.proofs.Common.{◌<◌, length, arith, rules}
 use Rattle.ns_edits.proofs.Sources.{count_over, count_left}
 use Rattle.ns_edits.proofs.admitting.concat.check_count.Goals as goal
 

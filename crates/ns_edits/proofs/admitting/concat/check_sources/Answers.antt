@@ -1,9 +1,5 @@
-use Rattle.std.proofs.Common.{◌≡◌, ◌∷◌, [], ◌+◌, ◌<◌, ◌||◌, Some, None, length, take, drop, arith, rules}
-use Rattle.std.specs.List.{list_any}
-use Rattle.ns_tree.specs.Path.{same_text}
-use Rattle.ns_edits.specs.declared.refusal.AdmitRefusal.TheVariants.{IntoItself}
-use Rattle.ns_edits.specs.Admit.{Refusal, first, refused_if, admit_part, admit_sources}
-use Rattle.ns_edits.proofs.Sources.{listed, source_step, refused_at, passed_at}
+use Rattle.std.proofs.Common.{◌<◌, length, arith, rules}
+use Rattle.ns_edits.proofs.Sources.{source_step, refused_at, passed_at}
 use Rattle.ns_edits.proofs.admitting.concat.check_sources.Goals as goal
 
 pub returns-in_err-check_source : goal.returns-in_err-check_source

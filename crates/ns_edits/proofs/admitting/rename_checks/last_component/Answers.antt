@@ -1,7 +1,6 @@
-use Rattle.std.proofs.Common.{◌≡◌, sym, arith, refl, ◌∙◌, length, drop, ◌-◌, ◌+◌, ◌<◌, false}
+use Rattle.std.proofs.Common.{◌≡◌, sym, arith, ◌∙◌, length, drop, ◌-◌, ◌+◌, ◌<◌, false}
 use Rattle.std.proofs.lemmas.List.{take_all, length-drop}
 use Rattle.ns_tree.specs.Path.{has_slash}
-use Rattle.ns_edits.specs.Admit.{last_component}
 use Rattle.ns_edits.proofs.Components.{after_slash, whole_component}
 use Rattle.ns_edits.proofs.admitting.rename_checks.last_component.Goals as goal
 

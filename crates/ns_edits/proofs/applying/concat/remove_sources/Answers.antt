@@ -1,5 +1,4 @@
-use Rattle.std.proofs.Common.{◌≡◌, ◌∷◌, ◌+◌, ◌∙◌, ap, sym, subst, refl, drop, List, ℕ}
-use Rattle.ns_tree.specs.declared.inode.Row.{Row}
+use Rattle.std.proofs.Common.{◌≡◌, ◌+◌, ◌∙◌, ap, sym, subst, refl, drop, List, ℕ}
 use Rattle.ns_tree.specs.Path.{parent_of}
 use Rattle.ns_tree.specs.Space.{without, raise}
 use Rattle.ns_edits.specs.Apply.{AreSources, without_sources}

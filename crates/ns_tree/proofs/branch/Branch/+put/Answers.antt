@@ -44,9 +44,11 @@ put-put-requires t c =
             (
               there,
               subst (λ (xs : List Row). find (c.first_name.result.1.now ++ 47 ∷ c.args.kid.name.now) xs ≡ None) (sym c.deref_mut.ensures.value)
-                  (entry_absent (λ k. k.items) (λ b. b.value) c.self.inside.inode c.self.inside.kids.entries c.args.self.now c.self.view_is c.self.invariant c.get_mut.ensures.ordered c.args.path.now
+                  (entry_absent (λ k. k.items) (λ b. b.value) c.self.inside.inode c.self.inside.kids.entries c.args.self.now c.self.view_is c.self.invariant c.get_mut.ensures.ordered
+                  c.args.path.now
                   c.first_name.result.0.now
-                  c.first_name.result.1.now c.first_name.ensures.parts c.first_name.ensures.name c.first_name.ensures.rest c.in-Some.branch.now (sym c.in-Some.ensures.value) (47 ∷ c.args.kid.name.now) refl
+                  c.first_name.result.1.now c.first_name.ensures.parts c.first_name.ensures.name c.first_name.ensures.rest c.in-Some.branch.now (sym c.in-Some.ensures.value) (47 ∷
+                  c.args.kid.name.now) refl
                   c.requires.absent),
             ),
           ),
