@@ -1,8 +1,8 @@
-use Rattle.std.proofs.Common.{arith, ◌∙◌, ap, ◌++◌, List, ℕ, [], ◌∷◌, append_assoc, ◌≡◌, length, sym, get_or, take, ◌+◌}
+use Rattle.std.proofs.Common.{arith, ◌∙◌, ap, ◌++◌, List, ℕ, ◌∷◌, ◌≡◌, length, sym, get_or, take, ◌+◌}
 use Rattle.base_words.specs.Hex.{hex_text}
 use Rattle.journal_text.specs.Texts.{bodies_text}
 use Rattle.journal_text.proofs.PrintLaws.{bodies_more}
-use Rattle.play_report.proofs.TakerLaws.{three}
+use Rattle.play_report.proofs.TakerLaws.{two}
 use Rattle.play_report.proofs.pieces.put_bodies.Goals as goal
 
 pub loop-body-init : goal.loop-body-init
@@ -18,5 +18,4 @@ loop-body-preserved g c =
     let there : body ≡ get_or bodies i c.body-item.result = c.as_slice.ensures ∙ c.body-item.is ∙ ap (λ (xs : List (List ℕ)). get_or xs i c.body-item.result) same in
     let more : bodies_text (take (i + 1) bodies) ≡ bodies_text (take i bodies) ++ (32 ∷ hex_text body) =
     bodies_more bodies i c.body-item.result (omega (arith, ap length same)) ∙ ap (λ (b : List ℕ). bodies_text (take i bodies) ++ (32 ∷ hex_text b)) (sym there) in
-    three g.T.Taker.adds g.met.T.Taker.adds_more _ _ _ _ _ _ _ _ c.loop-body.invariant c.put.ensures c.put_hex.ensures
-    (append_assoc (bodies_text (take i bodies)) (32 ∷ []) (hex_text body) ∙ sym more)
+    two g.T.Taker.adds g.met.T.Taker.adds_more _ _ _ _ _ _ c.loop-body.invariant c.put_body.ensures (sym more)

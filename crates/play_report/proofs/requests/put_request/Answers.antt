@@ -6,7 +6,7 @@ use Rattle.play_report.proofs.requests.put_request.Goals as goal
 pub returns-in-Journal : goal.returns-in-Journal
 unfolding request_text
 returns-in-Journal g c =
-    two g.T.Taker.adds g.met.T.Taker.adds_more _ _ _ _ _ _ c.put_asked-in-Journal.ensures c.put_bodies.ensures (search (rules, append_assoc))
+    two g.T.Taker.adds g.met.T.Taker.adds_more _ _ _ _ _ _ c.put_asked_two.ensures c.put_bodies.ensures (search (rules, append_assoc))
 
 pub returns-in-Accept : goal.returns-in-Accept
 unfolding request_text
