@@ -37,29 +37,35 @@ fn put_all<L: Line, R: Wait>(
     count
 }
 
-/// Takes the answers of the first of these nodes, in order, and whether memory was wanting for any.
+/// What was asked: this request, of the first of these nodes, so many.
+#[derive(Drop)]
+struct Asked<'a> {
+    nodes: &'a [usize],
+    count: usize,
+    request: &'a SharedRequest,
+}
+
+/// Takes the answers of those that were asked, in order, and whether memory was wanting for any.
 fn hear_all<L: Line, R: Wait>(
     rt: &R,
     alloc: Global,
     ends: &mut Vec<End<L>>,
-    nodes: &[usize],
-    count: usize,
-    request: &SharedRequest,
+    asked: &Asked<'_>,
     heards: Vec<Heard>,
 ) -> (Vec<Heard>, bool)
     requires empty { heards.items ≡ [] }
-    requires room { count ≤ vec_capacity heards }
-    requires nodes { AreNodes (length ends.old.items) nodes.now }
-    requires few { count ≤ length nodes.now }
-    requires ready { HasHeard nodes.now request.now count [] ends.old.items ends.old.items }
-    ensures fits { All (λ heard. FitsHeard request.now heard) result.0.items }
-    ensures heard { (answers : List Answer) × (length answers ≡ count) × HasHeard nodes.now request.now count answers ends.old.items ends.new.items × (result.1 ≡ false → answers ≡ map (λ h. Ok h) result.0.items) }
+    requires room { asked.now.count ≤ vec_capacity heards }
+    requires nodes { AreNodes (length ends.old.items) asked.now.nodes.now }
+    requires few { asked.now.count ≤ length asked.now.nodes.now }
+    requires ready { HasHeard asked.now.nodes.now asked.now.request.now asked.now.count [] ends.old.items ends.old.items }
+    ensures fits { All (λ heard. FitsHeard asked.now.request.now heard) result.0.items }
+    ensures heard { (answers : List Answer) × (length answers ≡ asked.now.count) × HasHeard asked.now.nodes.now asked.now.request.now asked.now.count answers ends.old.items ends.new.items × (result.1 ≡ false → answers ≡ map (λ h. Ok h) result.0.items) }
 {
     let mut heards = heards;
     let mut lacking = false;
-    for k in 0..count {
-        let node = nodes[k];
-        let Ok(heard) = ends[node - 1].hear(rt, alloc, request) else {
+    for k in 0..asked.count {
+        let node = asked.nodes[k];
+        let Ok(heard) = ends[node - 1].hear(rt, alloc, asked.request) else {
             lacking = true;
             continue;
         };
@@ -130,7 +136,12 @@ impl<L: Line> Desk<L> {
     {
         let heards = Vec::with_capacity(alloc, nodes.len())?;
         let count = put_all(rt, &mut self.ends, nodes, request);
-        let (heards, lacking) = hear_all(rt, alloc, &mut self.ends, nodes, count, request, heards);
+        let asked = Asked {
+            nodes,
+            count,
+            request,
+        };
+        let (heards, lacking) = hear_all(rt, alloc, &mut self.ends, &asked, heards);
         if lacking || count < nodes.len() {
             return Err(AllocError);
         }

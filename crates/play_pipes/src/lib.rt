@@ -18,6 +18,7 @@ mod gate_line;
 mod kept;
 mod line;
 mod maker;
+mod patience;
 mod pipe;
 mod pipe_lines;
 mod pipe_work;

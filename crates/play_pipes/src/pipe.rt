@@ -9,6 +9,7 @@ ghost use Rattle.play_pipes.specs.Ends.{put_one, told_one};
 use crate::answered::Answered;
 use crate::ask::{Answer, Ask};
 use crate::line::Line;
+use crate::patience::Patience;
 use crate::queue::{QueuePass, compare, pop, push, take_receipt};
 use crate::queues::Queues;
 use crate::worker::{Errand, Left};
@@ -18,13 +19,15 @@ use std::marker::Model;
 use std::sync::{Arc, Wait};
 use std::thread::{PromisedHandle, Threads};
 
-/// The caller's end of a pipe: the queues, its passes, and the worker at their other end.
+/// The caller's end of a pipe: the queues, its passes, the worker at their other end, and how long
+/// it looks for an answer before it sleeps.
 #[derive(Drop)]
 pub(crate) struct Pipe<L: Line> {
     queues: Arc<Queues, Global>,
     sends: QueuePass<Ask>,
     hears: QueuePass<Answered>,
     worker: PromisedHandle<Left<L>, Errand<L>>,
+    patience: Patience,
 }
 
 impl<L: Line> Model for Pipe<L> {
@@ -57,6 +60,7 @@ impl<L: Line> Pipe<L> {
             sends,
             hears,
             worker,
+            patience: Patience::new(),
         }
     }
 
@@ -83,7 +87,13 @@ impl<L: Line> Pipe<L> {
     {
         let _ = request;
         let queues = &*self.queues;
-        let answered = pop(rt, &queues.answers, &queues.answered, &mut self.hears);
+        let answered = pop(
+            rt,
+            &queues.answers,
+            &queues.answered,
+            &mut self.hears,
+            &mut self.patience,
+        );
         let (answer, _, receipt) = answered.into_parts();
         take_receipt(&queues.asks, &mut self.sends, receipt);
         answer
@@ -100,6 +110,7 @@ impl<L: Line> Pipe<L> {
             mut sends,
             hears,
             worker,
+            patience: _,
         } = self;
         push(rt, &queues.asks, &queues.asked, &mut sends, Ask::Close);
         let Left { line, takes, gives } = worker.join(rt);

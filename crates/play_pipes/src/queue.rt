@@ -1,16 +1,17 @@
 //! A bounded queue from one thread to another, and what its passes know.
-ghost use Rattle.std.specs.Prelude.{◌≡◌, true, false, List, [], ◌∷◌, ◌++◌, length, IfOk};
+ghost use Rattle.std.specs.Prelude.{◌≡◌, true, false, List, [], ◌∷◌, ◌++◌, length, IfOk, MatchOption};
 ghost use Rattle.crossbeam_queue.specs.Passes.{view, IsPassOf};
 ghost use Rattle.play_pipes.specs.Relay.{log, Begins, no_source};
 
+use crate::patience::Patience;
 use crossbeam_queue::protocol::{Join, Lesson, Outcome, Protocol, Split};
 use crossbeam_queue::{Pass, RuledArrayQueue};
 use std::alloc::{AllocError, Global};
 use std::collections::LinkedList;
 use std::marker::{Brand, PhantomData};
 use std::sync::Wait;
-use std::thread;
 use std::thread::Parker;
+use std::{hint, thread};
 
 /// The most items that wait in a queue.
 const ROOM: usize = 16;
@@ -201,8 +202,25 @@ pub(crate) fn push<T: Drop + Item, R: Wait>(
     unreachable!()
 }
 
+/// Pops, at one of so many looks, if an item is there by then.
+fn look<T: Drop + Item>(queue: &Queue<T>, pass: &mut QueuePass<T>, looks: u32) -> Option<T>
+    requires own { IsPassOf queue.now pass.old }
+    requires may { (view pass.old).pops ≡ true }
+    ensures own { IsPassOf queue.now pass.new }
+    ensures got { MatchOption result (view pass.new ≡ view pass.old) (λ item. (view pass.new ≡ log (view pass.old).pushes (view pass.old).pops (view pass.old).sent ((view pass.old).got ++ item ∷ []) (view pass.old).source (view pass.old).known) × T.stands (view pass.old).source (length (view pass.old).got) item) }
+    ensures same { pass.new.table_id ≡ pass.old.table_id }
+{
+    for _ in 0..looks {
+        if let Some(item) = queue.try_pop_as::<Got>(pass) {
+            return Some(item);
+        }
+        hint::spin_loop();
+    }
+    None
+}
+
 /// Pops; while the queue is empty it sleeps at `ready`.
-pub(crate) fn pop<T: Drop + Item, R: Wait>(
+fn pop_asleep<T: Drop + Item, R: Wait>(
     rt: &R,
     queue: &Queue<T>,
     ready: &Parker,
@@ -222,6 +240,37 @@ pub(crate) fn pop<T: Drop + Item, R: Wait>(
         ready.park(rt);
     }
     unreachable!()
+}
+
+/// Pops. While the queue is empty it looks again, as often as its patience says, and then sleeps at
+/// `ready`.
+pub(crate) fn pop<T: Drop + Item, R: Wait>(
+    rt: &R,
+    queue: &Queue<T>,
+    ready: &Parker,
+    pass: &mut QueuePass<T>,
+    patience: &mut Patience,
+) -> T
+    requires own { IsPassOf queue.now pass.old }
+    requires may { (view pass.old).pops ≡ true }
+    ensures own { IsPassOf queue.now pass.new }
+    ensures got { view pass.new ≡ log (view pass.old).pushes (view pass.old).pops (view pass.old).sent ((view pass.old).got ++ result ∷ []) (view pass.old).source (view pass.old).known }
+    ensures stands { T.stands (view pass.old).source (length (view pass.old).got) result }
+    ensures same { pass.new.table_id ≡ pass.old.table_id }
+{
+    if let Some(item) = queue.try_pop_as::<Got>(pass) {
+        return item;
+    }
+    match look(queue, pass, patience.looks()) {
+        Some(item) => {
+            patience.grow();
+            item
+        }
+        None => {
+            patience.shrink();
+            pop_asleep(rt, queue, ready, pass)
+        }
+    }
 }
 
 /// A receipt for all that was popped: that it had been pushed.

@@ -8,6 +8,7 @@ ghost use Rattle.play_pipes.specs.Served.{Served, Keeps};
 use crate::answered::Answered;
 use crate::ask::Ask;
 use crate::line::Line;
+use crate::patience::Patience;
 use crate::queue::{QueuePass, pop, push, receipt_of};
 use crate::queues::Queues;
 use std::alloc::Global;
@@ -55,8 +56,9 @@ pub(crate) fn serve<L: Line, R: Wait>(
     let mut takes = takes;
     let mut gives = gives;
     let mut line = line;
+    let mut patience = Patience::new();
     for _ in rt.forever() {
-        match pop(rt, &queues.asks, &queues.asked, &mut takes) {
+        match pop(rt, &queues.asks, &queues.asked, &mut takes, &mut patience) {
             Ask::Call(request) => {
                 let receipt = receipt_of(&queues.asks, &mut takes);
                 let answer = line.call(alloc, &request);

@@ -109,7 +109,8 @@ fn note<C: GateCell, J: Noted<(C::Ask, C::Answer)>>(
     let _ = steps.fetch_add::<Notes<J>>(seat, LENGTH, 1);
 }
 
-// Gives the cell back, and lets the next one in.
+// Gives the cell back, and lets the next one in. Nobody is woken where nobody has drawn a ticket by
+// then: whoever draws one after that look sees that it is served.
 fn pass_on<C: GateCell>(steps: &Steps<C>, seat: &mut Holder<C>, ticket: u64)
     requires own { (seat.old.table_id ≡ steps.now.table_id) × (steps.now.table_id.words ≡ 3) × (steps.now.table_id.slots ≡ 1) }
     requires inside { (seat.old.me.0.stage ≡ Inside) × (ticket ≡ seat.old.me.0.ticket % 2 ^ 64) }
@@ -117,8 +118,11 @@ fn pass_on<C: GateCell>(steps: &Steps<C>, seat: &mut Holder<C>, ticket: u64)
     ensures same { seat.new.table_id ≡ seat.old.table_id }
     ensures passed { seat.new.me ≡ (seated Rests seat.old.me.0.caller 0 seat.old.me.0.seen seat.old.me.0.places, []) }
 {
-    steps.store::<Passes>(seat, SERVING, ticket.wrapping_add(1));
-    steps.wake_all(SERVING);
+    let next = ticket.wrapping_add(1);
+    steps.store::<Passes>(seat, SERVING, next);
+    if steps.peek(TICKET) != next {
+        steps.wake_all(SERVING);
+    }
 }
 
 // Draws a ticket, and waits until the seat has the cell.

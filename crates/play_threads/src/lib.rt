@@ -5,8 +5,9 @@
 //! A gate is a table of three words, `ticket`, `serving` and `length`, and of one slot with the
 //! cell. Each caller has a seat, which draws a ticket, waits until `serving` is its ticket, calls
 //! the cell in the slot, adds one to `length`, and sets `serving` to the next ticket. A seat that
-//! waits is parked on the word `serving`, and each passing on wakes those that wait; none of them
-//! turns round in a loop. These are all kinds of steps, with what each tells its seat:
+//! waits is parked on the word `serving`, and each passing on wakes those that wait, if a further
+//! ticket was drawn; none of them turns round in a loop. These are all kinds of steps, with what
+//! each tells its seat:
 //!
 //! | step | on | what it does | what its seat knows then |
 //! |---|---|---|---|

@@ -8,5 +8,6 @@ use Rattle.play_pipes.proofs.desk.hear_all.Given as goal
 
 abbrev pub invariant-loop-k : goal.invariant-loop-k
 invariant-loop-k g l =
-    (answers : List Answer) × (length answers ≡ l.k) × HasHeard l.nodes l.request l.count answers l.initial.ends.items l.ends.items
-    × (l.lacking ≡ false → answers ≡ map (λ h. Ok h) l.heards.items) × (length l.heards.items ≤ l.k) × (l.count ≤ vec_capacity l.heards) × All (λ h. FitsHeard l.request h) l.heards.items
+    (answers : List Answer) × (length answers ≡ l.k) × HasHeard l.asked.nodes.now l.asked.request.now l.asked.count answers l.initial.ends.items l.ends.items
+    × (l.lacking ≡ false → answers ≡ map (λ h. Ok h) l.heards.items) × (length l.heards.items ≤ l.k)
+    × (l.asked.count ≤ vec_capacity l.heards) × All (λ h. FitsHeard l.asked.request.now h) l.heards.items

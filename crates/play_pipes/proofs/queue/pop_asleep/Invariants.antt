@@ -1,6 +1,6 @@
 use Rattle.std.proofs.Common.{◌≡◌}
 use Rattle.crossbeam_queue.specs.Passes.{view, IsPassOf}
-use Rattle.play_pipes.proofs.queue.pop.Given as goal
+use Rattle.play_pipes.proofs.queue.pop_asleep.Given as goal
 
 abbrev pub invariant-loop : goal.invariant-loop
 invariant-loop g l =
