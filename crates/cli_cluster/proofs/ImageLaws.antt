@@ -65,7 +65,8 @@ starts_two files last before older s images n second behind at are = record {
   );
 }
 
-pub at_newest : (files later : Files) (txid : ℕ) (s : StandbyView) (images : List Image) → later ≡ files → IsNewest files (newest.Image txid) → StartsAt later txid s images → StandsAtNewest files s images
+pub at_newest : (files later : Files) (txid : ℕ) (s : StandbyView) (images : List Image) → later ≡ files → IsNewest files (newest.Image txid) → StartsAt later txid s images
+    → StandsAtNewest files s images
 at_newest files later txid s images e n h = inl (txid, n, subst (λ (f : Files). StartsAt f txid s images) e h)
 
 pub at_nothing : (files : Files) (s : StandbyView) (images : List Image) → IsNewest files newest.NoImage → s ≡ empty_standby → images ≡ [] → StandsAtNewest files s images
@@ -79,7 +80,8 @@ begins nodes images s v e =
 pub begins_as : (nodes : ℕ) (files : Files) (images : List Image) (s : StandbyView) (v : ActorView) → v ≡ begun_actor nodes images s → StandsAtNewest files s images → BeginsAs nodes files v
 begins_as nodes files images s v e h = record { images = images; standby = s; is = e; stands = h }
 
-pub has_folder : {D : Type 0} (disk : Ghosts D) (old new : D) (actor : ActorView) (v : FolderView D) → Stays disk old new → v ≡ record { actor = actor; disk = Some new; failed = false } → HasFolder disk old v
+pub has_folder : {D : Type 0} (disk : Ghosts D) (old new : D) (actor : ActorView) (v : FolderView D) → Stays disk old new → v ≡ record { actor = actor; disk = Some new; failed = false }
+    → HasFolder disk old v
 has_folder disk old new actor v stays e = record { now = new; is = ap (λ x. x.disk) e; stays = stays; well = ap (λ x. x.failed) e }
 
 pub ruleset starts = (stays_same, stays_on, stays_of, at_image, second_of, second_or_none, starts_one, starts_two, at_newest, at_nothing, begins, begins_as, has_folder)

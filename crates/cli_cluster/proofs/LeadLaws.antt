@@ -6,6 +6,8 @@ use Rattle.std.proofs.KnownBytes.{Appends-nil}
 use Rattle.base_outside.specs.Faults.{Rose}
 use Rattle.mesh.specs.Makers.{IsOfChores}
 use Rattle.play_model.specs.Actions.{ActorView}
+use Rattle.pipe_seats.specs.Calls.{EndsView}
+use Rattle.pipe_seats.specs.Opened.{CameAsTheirs}
 use Rattle.pipe_seats.specs.Piped.{PipesView, AreLater, AreResting}
 use Rattle.pipe_lead.specs.declared.lead_end.LeadEnd.{LeadEnd}
 use Rattle.pipe_lead.specs.declared.lead_end.LeadEnd.TheVariants as lead_end
@@ -101,19 +103,20 @@ module _ (end : LeadEnd) (failed : Bool) (s : Status) (mid : Option (List ℕ)) 
       let line = subst (λ (j : ℕ). WritesLine (line_after end failed) (record sink { before = mid; faults_before = j; kept_before = k })) (same n) told_end.line in
       record { front = line.front; unless_failed = line.unless_failed; handed = λ f z. line.handed f (hands n z) }
 
-  pub leads_cluster : (begun actor : ActorView) (was seats : PipesView) (source : SourceUse)
+  pub leads_cluster : (Came : ℕ → EndsView → Type 0) (begun actor : ActorView) (was seats : PipesView) (source : SourceUse)
       → IfLasts end (Leads was.log.nodes begun actor seats.log source.told source.left sink.before mid end)
-      → IfLasts end (IsOfChores was.log.nodes seats.log.past) → IfLasts end (AreLater was seats) → IfLasts end (AreResting was.seats → AreResting seats.seats)
+      → IfLasts end (IsOfChores was.log.nodes seats.log.past) → IfLasts end (AreLater was seats) → CameAsTheirs Came seats.seats → IfLasts end (AreResting was.seats → AreResting seats.seats)
       → (end ≡ lead_end.ReadFault → AReadFailed source) → (end ≢ lead_end.ReadFault → NoReadFailed source)
       → (end ≡ lead_end.WriteFault → Rose sink.faults_before u) → (end ≢ lead_end.WriteFault → u ≡ sink.faults_before)
-      → (end ≢ lead_end.WriteFault → sink.kept_before ≡ 0 → k ≡ 0) → LeadsCluster failed begun actor was seats source sink s
-  leads_cluster begun actor was seats source leads made piped resting unread read unwritten written hands = record {
+      → (end ≢ lead_end.WriteFault → sink.kept_before ≡ 0 → k ≡ 0) → LeadsCluster Came failed begun actor was seats source sink s
+  leads_cluster Came begun actor was seats source leads made piped opened resting unread read unwritten written hands = record {
     end = end;
     status_is = told_end.status_is;
     told = mid;
     leads = leads;
     made = made;
     piped = piped;
+    opened = opened;
     resting = resting;
     line = line_behind unwritten written hands (write_or_not end);
     read_fault = λ e. unread (is_unread end failed (sym told_end.status_is ∙ e));

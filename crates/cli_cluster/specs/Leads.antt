@@ -3,6 +3,8 @@ use Rattle.std.specs.Prelude.{ℕ, ◌≡◌, ◌≢◌, ◌⊎◌, List, [], Op
 use Rattle.journal_session.specs.Lines.{longest_line}
 use Rattle.mesh.specs.Makers.{IsOfChores}
 use Rattle.play_model.specs.Actions.{ActorView}
+use Rattle.pipe_seats.specs.Calls.{EndsView}
+use Rattle.pipe_seats.specs.Opened.{CameAsTheirs}
 use Rattle.pipe_seats.specs.Piped.{PipesView, AreLater, AreResting}
 use Rattle.pipe_lead.specs.declared.lead_end.LeadEnd.{LeadEnd}
 use Rattle.pipe_lead.specs.declared.lead_end.LeadEnd.TheVariants as lead_end
@@ -42,14 +44,16 @@ pub record TellsLeadEnd (end : LeadEnd) (failed : Bool) (s : Status) (sink : Sin
 -- A name node's life from how it begins, but where memory ran out or its folder's disk failed: the
 -- record that an actor lists of the lines that were read, by what it heard; the calls of its tasks
 -- and tails; what came to each node's pipe, of which none is owed a reply if none was at first; the
--- results; and why it ended. Then its end was told.
-pub record LeadsCluster (failed : Bool) (begun actor : ActorView) (was seats : PipesView) (source : SourceUse) (sink : SinkUse) (s : Status) : Type 0 where
+-- results; and why it ended. Then its end was told. `Came` says of ends that they were opened as a
+-- node's: in any case all that came when a pipe was opened were its node's.
+pub record LeadsCluster (Came : ℕ → EndsView → Type 0) (failed : Bool) (begun actor : ActorView) (was seats : PipesView) (source : SourceUse) (sink : SinkUse) (s : Status) : Type 0 where
   pub end : LeadEnd
   pub status_is : s ≡ status_after end failed
   pub told : Option (List ℕ)
   pub leads : IfLasts end (Leads was.log.nodes begun actor seats.log source.told source.left sink.before told end)
   pub made : IfLasts end (IsOfChores was.log.nodes seats.log.past)
   pub piped : IfLasts end (AreLater was seats)
+  pub opened : CameAsTheirs Came seats.seats
   pub resting : IfLasts end (AreResting was.seats → AreResting seats.seats)
   pub line : WritesLine (line_after end failed) (record sink { before = told })
   pub read_fault : s ≡ status.ReadFault → AReadFailed source

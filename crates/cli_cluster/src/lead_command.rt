@@ -2,6 +2,7 @@
 ghost use Rattle.std.specs.Prelude.{◌≡◌, ◌≤◌, true};
 ghost use Rattle.play_calls.specs.Logs.{new_log};
 ghost use Rattle.pipe_lead.specs.Begun.{IsBegun};
+ghost use Rattle.pipe_seats.specs.Opened.{came_as};
 ghost use Rattle.cli_commands.specs.Faults.{status_of, line_of};
 ghost use Rattle.cli_commands.specs.Told.{IsBadFile, WritesLine};
 ghost use Rattle.cli_commands.specs.Uses.{read_from, written_to};
@@ -49,8 +50,9 @@ fn end_lead<P: Sink>(end: LeadEnd, failed: bool, sink: &mut P) -> Status
 /// Is a name node: takes the lines of the source one by one, over these pipes, in this life of its
 /// folder, and writes the results of each before the next is read. What it lists is what such an
 /// actor does with those lines, by what it heard; its calls are those of its tasks and tails; and
-/// to each node's pipe came what its record says, and nothing else. Its images are files of its
-/// folder: each is saved there before its result is written.
+/// to each node's pipe came what its record says, and nothing else, over ends that the opener gave
+/// as this node's. Its images are files of its folder: each is saved there before its result is
+/// written.
 ///
 /// `Ok`: the source ended. `Limit`: a line has more than 1,048,576 bytes. `ReadFault`,
 /// `WriteFault`: the source or the sink failed; what was not told then may be logged. `DiskFault`:
@@ -72,7 +74,7 @@ pub fn lead_cluster<
     requires some { 1 ≤ seats.old.log.nodes }
     requires begun { IsBegun seats.old.log.nodes by.old.actor }
     requires log { seats.old.log ≡ new_log seats.old.log.nodes true }
-    ensures { LeadsCluster by.new.failed by.old.actor by.new.actor seats.old seats.new (read_from I.left I.faults source.old source.new) (written_to P.taken P.faults P.kept_back sink.old sink.new) result }
+    ensures { LeadsCluster (came_as O.are_of S.left K.taken) by.new.failed by.old.actor by.new.actor seats.old seats.new (read_from I.left I.faults source.old source.new) (written_to P.taken P.faults P.kept_back sink.old sink.new) result }
 {
     let end = lead::<FolderActor<D>, S, K, O, I, P>(alloc, by, seats, source, sink);
     end_lead(end, by.has_failed(), sink)

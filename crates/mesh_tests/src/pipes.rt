@@ -13,7 +13,7 @@ fn pipe_of(
 ) -> Result<NodePipe<MemSource, MemSink>, OutOfMemory> {
     let source = MemSource::new(replies.to_vec(alloc)?, reads.to_vec(alloc)?);
     let sink = MemSink::new(alloc, 1000, writes.to_vec(alloc)?)?;
-    let mut pipe = NodePipe::unopened(7);
+    let mut pipe = NodePipe::unopened(alloc, 7);
     pipe.open_again(alloc, source, sink)?;
     Ok(pipe)
 }

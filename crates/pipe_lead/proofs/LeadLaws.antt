@@ -132,8 +132,8 @@ led_first n v s given before some e f = record {
 }
 
 -- one line was answered, of the input or put in
-led_more : (n : ℕ) (o : ActorView) (whole : Bool) (line : List ℕ) (v w : ActorView) (first s t : PipesView) (given mid left a b c : Option (List ℕ)) (count sum : ℕ) (input : List (List ℕ)) → s.log.nodes ≡ n
-    → (h : LedSoFar n o v first s given mid a b true count) → IsAnsweredAs whole line v s w t b c → length input ≡ sum → IsWithRolls input (h.lines ++ line ∷ [])
+led_more : (n : ℕ) (o : ActorView) (whole : Bool) (line : List ℕ) (v w : ActorView) (first s t : PipesView) (given mid left a b c : Option (List ℕ)) (count sum : ℕ) (input : List (List ℕ))
+    → s.log.nodes ≡ n → (h : LedSoFar n o v first s given mid a b true count) → IsAnsweredAs whole line v s w t b c → length input ≡ sum → IsWithRolls input (h.lines ++ line ∷ [])
     → Consumes given left (lines_text input) → LedSoFar n o w first t given left a c whole sum
 led_more n o whole line v w first s t given mid left a b c count sum input nodes h k counted put_in read =
     let taken : IsTaken n line k.of (kept_by v s.log) (kept_by w t.log) = subst (λ (m : ℕ). IsTaken m line k.of (kept_by v s.log) (kept_by w t.log)) nodes k.taken in
@@ -164,8 +164,8 @@ led_next n o whole line v w first s t given mid left a b c count nodes h k read 
     (its_line h.input h.lines line h.put_in)
     (subst (λ (x : List ℕ). Consumes given left x) (text_snoc h.input line) (Consumes-trans given mid left (lines_text h.input) (line ++ 10 ∷ []) h.read read))
 
-pub led_rolled : (n : ℕ) (o : ActorView) (whole : Bool) (v w : ActorView) (first s t : PipesView) (given left a b c : Option (List ℕ)) (count : ℕ) → s.log.nodes ≡ n → LedSoFar n o v first s given left a b true count
-    → IsAnsweredAs whole (codes "roll") v s w t b c → LedSoFar n o w first t given left a c whole count
+pub led_rolled : (n : ℕ) (o : ActorView) (whole : Bool) (v w : ActorView) (first s t : PipesView) (given left a b c : Option (List ℕ)) (count : ℕ) → s.log.nodes ≡ n
+    → LedSoFar n o v first s given left a b true count → IsAnsweredAs whole (codes "roll") v s w t b c → LedSoFar n o w first t given left a c whole count
 led_rolled n o whole v w first s t given left a b c count nodes h k =
     led_more n o whole (codes "roll") v w first s t given left left a b c count count h.input nodes h k h.counted (one_roll h.input h.lines h.put_in) h.read
 
@@ -219,8 +219,9 @@ line_alone : (line : List ℕ) (p : LineReaderView) (left : Option (List ℕ)) �
 line_alone line p left one h = subst (λ (x : List ℕ). IsLine x) (sym (ap (λ (x : List ℕ). line ++ x) h.held ∙ append-nil line)) one
 
 -- where there is no next line; of an input that is counted anew no line comes too late
-pub ends_at : (of : Next) (end : LeadEnd) (line : List ℕ) (n : ℕ) (o : ActorView) (v : ActorView) (first s : PipesView) (r q p : LineReaderView) (given mid left a b : Option (List ℕ)) (count : ℕ) → r.held ≡ []
-    → LedSoFar n o v first s (to_come r given) (to_come q mid) a b true count → q.taken ≡ 0 → IsNextLine of line q p mid left → end_of of ≡ Some end → IfLasts end (HasLed n o v s.log given left a b end)
+pub ends_at : (of : Next) (end : LeadEnd) (line : List ℕ) (n : ℕ) (o : ActorView) (v : ActorView) (first s : PipesView) (r q p : LineReaderView) (given mid left a b : Option (List ℕ)) (count : ℕ)
+    → r.held ≡ [] → LedSoFar n o v first s (to_come r given) (to_come q mid) a b true count → q.taken ≡ 0 → IsNextLine of line q p mid left → end_of of ≡ Some end
+    → IfLasts end (HasLed n o v s.log given left a b end)
 ends_at next.Line end line n o v first s r q p given mid left a b count e h z k is = absurd (cc is)
 ends_at next.Last end line n o v first s r q p given mid left a b count e h z k is =
     let same : lead_end.Done ≡ end = cc is in
@@ -252,8 +253,8 @@ later_at lead_end.WriteFault first s h = h
 later_at lead_end.OutOfMemory first s h = tt
 
 -- where a line ends it
-pub ends_with : (of : LeadEnd) (line : List ℕ) (n : ℕ) (o : ActorView) (v w : ActorView) (first s t : PipesView) (r q p : LineReaderView) (given mid left a b c : Option (List ℕ)) (count : ℕ) → r.held ≡ []
-    → s.log.nodes ≡ n → LedSoFar n o v first s (to_come r given) (to_come q mid) a b true count → IsAnswered (Some of) line v s w t b c
+pub ends_with : (of : LeadEnd) (line : List ℕ) (n : ℕ) (o : ActorView) (v w : ActorView) (first s t : PipesView) (r q p : LineReaderView) (given mid left a b c : Option (List ℕ)) (count : ℕ)
+    → r.held ≡ [] → s.log.nodes ≡ n → LedSoFar n o v first s (to_come r given) (to_come q mid) a b true count → IsAnswered (Some of) line v s w t b c
     → Consumes (to_come q mid) (to_come p left) (line ++ 10 ∷ []) → IfLasts of (HasLed n o w t.log given left a c of)
 ends_with lead_end.Done line n o v w first s t r q p given mid left a b c count e nodes h k read = absurd k
 ends_with lead_end.LongLine line n o v w first s t r q p given mid left a b c count e nodes h k read = absurd k
@@ -264,8 +265,8 @@ ends_with lead_end.WriteFault line n o v w first s t r q p given mid left a b c 
 ends_with lead_end.OutOfMemory line n o v w first s t r q p given mid left a b c count e nodes h k read = tt
 
 -- where the roll that is put in ends it
-pub ends_rolled : (of : LeadEnd) (n : ℕ) (o : ActorView) (v w : ActorView) (first s t : PipesView) (r q : LineReaderView) (given left a b c : Option (List ℕ)) (count : ℕ) → r.held ≡ [] → s.log.nodes ≡ n
-    → LedSoFar n o v first s (to_come r given) (to_come q left) a b true count → IsAnswered (Some of) (codes "roll") v s w t b c → IfLasts of (HasLed n o w t.log given left a c of)
+pub ends_rolled : (of : LeadEnd) (n : ℕ) (o : ActorView) (v w : ActorView) (first s t : PipesView) (r q : LineReaderView) (given left a b c : Option (List ℕ)) (count : ℕ) → r.held ≡ []
+    → s.log.nodes ≡ n → LedSoFar n o v first s (to_come r given) (to_come q left) a b true count → IsAnswered (Some of) (codes "roll") v s w t b c → IfLasts of (HasLed n o w t.log given left a c of)
 ends_rolled lead_end.Done n o v w first s t r q given left a b c count e nodes h k = absurd k
 ends_rolled lead_end.LongLine n o v w first s t r q given left a b c count e nodes h k = absurd k
 ends_rolled lead_end.ReadFault n o v w first s t r q given left a b c count e nodes h k = absurd k
@@ -490,7 +491,8 @@ if_lasts lead_end.ReadFault P Q f h = f h
 if_lasts lead_end.WriteFault P Q f h = f h
 if_lasts lead_end.OutOfMemory P Q f h = tt
 
-pub life_leads : (of : LeadEnd) (n : ℕ) (o v : ActorView) (l : LogView) (given left a b : Option (List ℕ)) → IfLasts of (HasLed n o v l given left a b of) → IfLasts of (Leads n o v l given left a b of)
+pub life_leads : (of : LeadEnd) (n : ℕ) (o v : ActorView) (l : LogView) (given left a b : Option (List ℕ)) → IfLasts of (HasLed n o v l given left a b of)
+    → IfLasts of (Leads n o v l given left a b of)
 life_leads of n o v l given left a b h = if_lasts of (HasLed n o v l given left a b of) (Leads n o v l given left a b of) (leads of n o v l given left a b) h
 
 pub life_made : (of : LeadEnd) (n : ℕ) (o v : ActorView) (l : LogView) (given left a b : Option (List ℕ)) → ScriptsArePlayable → IsBegun n o → IfLasts of (HasLed n o v l given left a b of)

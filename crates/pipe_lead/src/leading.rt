@@ -4,6 +4,7 @@ ghost use Rattle.base_outside.specs.Faults.{Rose};
 ghost use Rattle.play_calls.specs.Logs.{new_log};
 ghost use Rattle.play_model.specs.Actions.{kept_by, has_names, IsIdleActor};
 ghost use Rattle.mesh.specs.Makers.{IsOfChores};
+ghost use Rattle.pipe_seats.specs.Opened.{came_as, CameAsTheirs};
 ghost use Rattle.pipe_seats.specs.Piped.{AreLater, AreResting};
 ghost use Rattle.pipe_lead.specs.Begun.{IsBegun};
 ghost use Rattle.pipe_lead.specs.Leads.{HasLed, Leads, IfLasts, IsAnswered, IsAnsweredInTime, answer_text, end_of};
@@ -219,7 +220,8 @@ pub fn lead_lines<
 
 /// A whole life of a name node: the actor, as it begins, takes the lines of the source one by one,
 /// over these pipes. What it lists is what such an actor does with them, by what it heard, and its
-/// calls are those of some tasks and tails.
+/// calls are those of some tasks and tails. All ends over which they went are those that the opener
+/// gave as their node's.
 #[tactic(auto, using(crate::proofs::LeadLaws::whole_life))]
 pub fn lead<A: Actor, S: Source + Drop, K: Sink + Drop, O: Opener<S, K> + Drop, I: Source, P: Sink>(
     alloc: Global,
@@ -234,6 +236,7 @@ pub fn lead<A: Actor, S: Source + Drop, K: Sink + Drop, O: Opener<S, K> + Drop, 
     ensures led { IfLasts result (Leads seats.old.log.nodes (A.seen by.old) (A.seen by.new) seats.new.log (I.left source.old) (I.left source.new) (P.taken sink.old) (P.taken sink.new) result) }
     ensures made { IfLasts result (IsOfChores seats.old.log.nodes seats.new.log.past) }
     ensures piped { IfLasts result (AreLater seats.old seats.new) }
+    ensures opened { CameAsTheirs (came_as O.are_of S.left K.taken) seats.new.seats }
     ensures resting { IfLasts result (AreResting seats.old.seats → AreResting seats.new.seats) }
     ensures read_fault { result ≡ LeadEnd.ReadFault → Rose (I.faults source.old) (I.faults source.new) }
     ensures no_read_fault { result ≢ LeadEnd.ReadFault → I.faults source.new ≡ I.faults source.old }
@@ -242,5 +245,7 @@ pub fn lead<A: Actor, S: Source + Drop, K: Sink + Drop, O: Opener<S, K> + Drop, 
     ensures handed { result ≢ LeadEnd.WriteFault → P.kept_back sink.old ≡ 0 → P.kept_back sink.new ≡ 0 }
 {
     scripts_are_playable();
-    lead_lines(alloc, by, seats, source, sink)
+    let end = lead_lines(alloc, by, seats, source, sink);
+    seats.came_as_theirs();
+    end
 }

@@ -1,6 +1,7 @@
 pub mod Counts
 pub mod LineParts
 pub mod PipeLaws
+pub mod OpenedLaws
 pub mod SeatCalls
 pub mod SeatLaws
 pub mod SettledLaws

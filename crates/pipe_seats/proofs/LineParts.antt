@@ -58,7 +58,7 @@ other_end text front end e l off b = off (last_two front end b.front 32 46 l (sy
 pub ruleset ends = (short_end, other_end)
 
 -- ## The whole line
-parts : (life call : ℕ) (text : List ℕ) → tagged life call text ≡ 35 ∷ (decimal life ++ 32 ∷ (decimal call ++ 32 ∷ (text ++ 32 ∷ 46 ∷ [])))
+pub parts : (life call : ℕ) (text : List ℕ) → tagged life call text ≡ 35 ∷ (decimal life ++ 32 ∷ (decimal call ++ 32 ∷ (text ++ 32 ∷ 46 ∷ [])))
 parts life call text =
     append_assoc ((35 ∷ decimal life) ++ (32 ∷ decimal call)) (32 ∷ text) (32 ∷ 46 ∷ [])
     ∙ append_assoc (35 ∷ decimal life) (32 ∷ decimal call) (32 ∷ text ++ 32 ∷ 46 ∷ [])

@@ -14,9 +14,9 @@ use Rattle.pipe_seats.specs.Tagged.{tagged}
 use Rattle.pipe_seats.specs.Calls.{IsStale, PassesStale, TakesAfterStale, IsReplyLine, IsReplyRead}
 
 -- ## Lines that are passed over
-all_snoc : (life call : ℕ) (xs : List (List ℕ)) (x : List ℕ) → AllByRecursion (IsStale life call) xs → IsStale life call x → AllByRecursion (IsStale life call) (xs ++ x ∷ [])
-all_snoc life call [] x h s = (s, tt)
-all_snoc life call (y ∷ xs) x h s = (h.0, all_snoc life call xs x h.1 s)
+pub all_snoc : {A : Type 0} (P : A → Type 0) (xs : List A) (x : A) → AllByRecursion P xs → P x → AllByRecursion P (xs ++ x ∷ [])
+all_snoc P [] x h p = (p, tt)
+all_snoc P (y ∷ xs) x h p = (h.0, all_snoc P xs x h.1 p)
 
 pub text_snoc : (xs : List (List ℕ)) (x : List ℕ) → lines_text xs ++ (x ++ 10 ∷ []) ≡ lines_text (xs ++ x ∷ [])
 text_snoc xs x = ap (λ l. lines_text xs ++ l) (sym (append-nil (x ++ 10 ∷ []))) ∙ sym (flat_map-append (λ line. line ++ 10 ∷ []) xs (x ∷ []))
@@ -28,7 +28,7 @@ pub passes_one : (life call l k : ℕ) (text line : List ℕ) (a b d : Option (L
     → ((l ≡ life) × (k ≡ call) → ⊥) → PassesStale life call a d
 passes_one life call l k text line a b d h given is other = record {
   lines = h.lines ++ line ∷ [];
-  stale = all_snoc life call h.lines line h.stale (record { of_life = l; of_call = k; text = text; is = is; other = other });
+  stale = all_snoc (IsStale life call) h.lines line h.stale (record { of_life = l; of_call = k; text = text; is = is; other = other });
   given = subst (λ x. Consumes a d x) (text_snoc h.lines line) (Consumes-trans a b d _ _ h.given given);
 }
 

@@ -1,5 +1,6 @@
 -- A call over a pipe, and the seats one line later.
-use Rattle.std.proofs.Common.{◌≡◌, ◌≢◌, ℕ, ◌+◌, ◌-◌, ◌<◌, ◌≤◌, List, [], ◌∷◌, ◌++◌, Option, Some, None, Bool, true, false, refl, sym, ap, subst, ◌∙◌, arith, append-nil, length, length-set, set, get_or, ◌⊎◌, inl, inr}
+use Rattle.std.proofs.Common.{◌≡◌, ◌≢◌, ℕ, ◌+◌, ◌-◌, ◌<◌, ◌≤◌, List, [], ◌∷◌, ◌++◌, Option, Some, None, Bool, true, false, refl, sym, ap, subst, ◌∙◌, arith}
+use Rattle.std.proofs.Common.{append-nil, length, length-set, set, get_or, ◌⊎◌, inl, inr}
 use Rattle.std.specs.Prelude.{Result, Ok, Err, IfOk, OnOk, OnErr, is_some}
 use Rattle.std.specs.declared.alloc.AllocError.{AllocError}
 use Rattle.std.proofs.lemmas.List.{get_or_default, get_or-set_other, get_or-set_same, get_or-replicate, length-replicate}
@@ -10,13 +11,14 @@ use Rattle.journal_core.specs.declared.heard.Heard.{Heard}
 use Rattle.journal_core.specs.declared.heard.Heard.TheVariants.{Answer, Silent}
 use Rattle.journal_core.specs.Peers.{Lists}
 use Rattle.journal_history.specs.declared.node_ask.NodeAnswer.TheVariants.{Replied, Stopped, Done}
+use Rattle.journal_history.specs.declared.mark.MarkKind.{MarkKind}
 use Rattle.journal_history.specs.declared.record.Record.{Record}
 use Rattle.journal_history.specs.declared.record.Record.TheVariants.{Call, Late, Outcome}
 use Rattle.journal_history.specs.declared.record.Told.TheVariants as told
 use Rattle.play_calls.specs.declared.delivery.Delivery.{Delivery}
 use Rattle.play_calls.specs.declared.delivery.Delivery.TheVariants.{Delivered, ReplyLost, NotDelivered}
 use Rattle.play_calls.specs.Deliveries.{told_of}
-use Rattle.play_calls.specs.Logs.{LogView, with_line, copy_call, calls_in, IsCalled}
+use Rattle.play_calls.specs.Logs.{LogView, with_line, lose_call, copy_call, calls_in, IsCalled}
 use Rattle.play_calls.specs.Made.{MakesCalls}
 use Rattle.play_calls.proofs.CallLists.{makes_none, makes_one, lists_called}
 use Rattle.pipe_seats.specs.Calls.{PipeView}
@@ -67,7 +69,7 @@ pub ruleset calls = (dropped_went, muted_went, late_went, reply_went, silent_wen
 
 -- ## The seats, some lines later
 -- of these one was set, and the others are as they were
-each_seat : (P : ℕ → SeatView → SeatView → Type 0) (seats : List SeatView) (u v : SeatView) (place : ℕ) → u ≡ get_or seats place u → P place u v
+pub each_seat : (P : ℕ → SeatView → SeatView → Type 0) (seats : List SeatView) (u v : SeatView) (place : ℕ) → u ≡ get_or seats place u → P place u v
     → ((i : ℕ) (s : SeatView) → i ≢ place → P i s s) → (i : ℕ) (d : SeatView) → i < length seats → P i (get_or seats i d) (get_or (set seats place v) i d)
 each_seat P seats u v place there here elsewhere i d l = by (cases_eq i place)
   where
@@ -112,6 +114,12 @@ pub said_nodes : {A E : Type 0} (r : Result A E) (old new : LogView) (text : Lis
     → new.nodes ≡ old.nodes
 said_nodes (Ok a) old new text listed same = ap (λ (l : LogView). l.nodes) listed
 said_nodes (Err e) old new text listed same = ap (λ (l : LogView). l.nodes) same
+
+-- so does a mark
+pub marked_nodes : {A E : Type 0} (r : Result A E) (old new : LogView) (node next : ℕ) (k : MarkKind) → OnOk r (new ≡ lose_call old node next k) → OnErr r (new ≡ record old { whole = false })
+    → new.nodes ≡ old.nodes
+marked_nodes (Ok a) old new node next k marked same = ap (λ (l : LogView). l.nodes) marked
+marked_nodes (Err e) old new node next k marked same = ap (λ (l : LogView). l.nodes) same
 
 -- a line of one node, whichever line it is: the seats are one line later
 module _ (node : ℕ) (line : Record) (of : (k : ℕ) → IsOf k line → node ≡ k) (own : (k : ℕ) → node ≡ k → IsOf k line) where

@@ -1,5 +1,6 @@
 -- A record that is settled goes by its losses, and its calls are still those that its maker makes.
-use Rattle.std.proofs.Common.{◌≡◌, ℕ, ◌≤◌, ◌<◌, List, [], ◌∷◌, ◌++◌, Bool, true, false, Contains, refl, sym, ap, ◌∙◌, subst, arith, length, ◌⊎◌, inl, inr, append_assoc, length-append, Option, Some, None}
+use Rattle.std.proofs.Common.{◌≡◌, ℕ, ◌≤◌, ◌<◌, List, [], ◌∷◌, ◌++◌, Bool, true, false, Contains, refl, sym, ap, ◌∙◌, subst, arith, length, ◌⊎◌, inl, inr}
+use Rattle.std.proofs.Common.{append_assoc, length-append, Option, Some, None}
 use Rattle.std.specs.Prelude.{◌≢◌, ◌==◌}
 use Rattle.std.proofs.lemmas.Bool.{cases_lt}
 use Rattle.std.proofs.lemmas.List.Elements.{Contains-push, Contains-push_cases}

@@ -28,13 +28,15 @@ left_in (Some ends) = ends.left
 
 -- What was written to a pipe and what is still to be read of it, where that is told; whether it is
 -- in use, which it isn't before its first opening and from a fault on; the life of its caller, and
--- how many calls of that life were written to the node, or begun to be.
+-- how many calls of that life were written to the node, or begun to be; and the ends that came at
+-- its openings, in their order, each as they were then.
 pub record PipeView : Type 0 where
   pub taken : Option (List ℕ)
   pub left : Option (List ℕ)
   pub is_open : Bool
   pub life : ℕ
   pub calls : ℕ
+  pub opened : List EndsView
 
 -- ## Lines
 -- each with its line feed
@@ -79,7 +81,7 @@ pub record IsReplyRead (life call : ℕ) (r : Request) (reply : Reply) (before a
 -- ## Calls
 -- before its first opening
 abbrev pub unopened : ℕ → PipeView
-unopened life = record { taken = None; left = None; is_open = false; life = life; calls = 0 }
+unopened life = record { taken = None; left = None; is_open = false; life = life; calls = 0; opened = [] }
 
 -- A request was written: all of its line where the pipe is in use after it, and else a front of it.
 -- To a pipe that isn't in use nothing is written. A number whose line was begun isn't used again:
@@ -93,6 +95,7 @@ pub record IsSent (old new : PipeView) (r : Request) : Type 0 where
   pub front : TakesFront old.taken new.taken (request_line old.life (old.calls + 1) r)
   pub left : new.left ≡ old.left
   pub life : new.life ≡ old.life
+  pub opened : new.opened ≡ old.opened
 
 -- the answer to the call that was written last was read whole, and the pipe is in use; of silence
 -- nothing more is known
@@ -108,6 +111,7 @@ pub record IsHeardAt (old new : PipeView) (r : Request) (heard : Heard) : Type 0
   pub taken : new.taken ≡ old.taken
   pub life : new.life ≡ old.life
   pub calls : new.calls ≡ old.calls
+  pub opened : new.opened ≡ old.opened
 
 -- Its request was sent, and then its reply was heard.
 pub record IsExchanged (old new : PipeView) (r : Request) (heard : Heard) : Type 0 where
@@ -115,11 +119,13 @@ pub record IsExchanged (old new : PipeView) (r : Request) (heard : Heard) : Type
   pub sent : IsSent old between r
   pub heard_then : IsHeardAt between new r heard
 
--- the pipe was opened again, for the calls to come
+-- the pipe was opened again, for the calls to come: they go over the ends that came then, as they
+-- were
 pub record IsOpenedAgain (old new : PipeView) : Type 0 where
   pub is_open : new.is_open ≡ true
   pub life : new.life ≡ old.life
   pub calls : new.calls ≡ old.calls
+  pub opened : new.opened ≡ old.opened ++ record { taken = new.taken; left = new.left } ∷ []
 
 -- it is as it was, or was opened again
 abbrev pub IsReady : PipeView → PipeView → Type 0

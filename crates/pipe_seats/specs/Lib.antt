@@ -2,6 +2,7 @@ pub mod Tagged
 pub mod Ends
 pub mod Calls
 pub mod Seats
+pub mod Opened
 pub mod Piped
 pub mod LaterLaws
 pub mod Settled

@@ -1,6 +1,7 @@
 //! Pipes that aren't in use are opened again.
 ghost use Rattle.std.specs.Prelude.{◌≤◌, OnOk};
 ghost use Rattle.pipe_seats.specs.Calls.{IsReady};
+ghost use Rattle.pipe_seats.specs.Opened.{came_as, OpensAs};
 
 use crate::line_room::LineRoom;
 use crate::node_pipe::NodePipe;
@@ -24,7 +25,9 @@ fn may_join(request: &Request) -> bool {
     )
 }
 
-/// Opens a pipe again that isn't in use, where the request is one to join with.
+/// Opens a pipe again that isn't in use, where the request is one to join with: over the ends that
+/// the opener gives as this node's.
+#[tactic(auto, using(crate::proofs::OpenedLaws::openings))]
 pub(crate) fn make_ready<S: Source + Drop, K: Sink + Drop, O: Opener<S, K>>(
     alloc: Global,
     opener: &mut O,
@@ -34,6 +37,7 @@ pub(crate) fn make_ready<S: Source + Drop, K: Sink + Drop, O: Opener<S, K>>(
 ) -> Result<(), OutOfMemory>
     requires low { 1 ≤ node }
     ensures ready { OnOk result (IsReady pipe.old pipe.new) }
+    ensures came { OpensAs (came_as O.are_of S.left K.taken node) pipe.old pipe.new }
 {
     if pipe.is_open() || !may_join(request) {
         return Ok(());

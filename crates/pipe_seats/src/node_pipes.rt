@@ -22,6 +22,8 @@ impl<R> NodePipes<R> {
 }
 
 impl<R: Files + AllocGlobal> Opener<FileSource<R::File>, FileSink<R::File>> for NodePipes<R> {
+    ghost are_of = { λ node source sink. Unit {0} };
+
     fn open(&mut self, node: usize) -> Option<(FileSource<R::File>, FileSink<R::File>)> {
         open_to_ask(&self.rt, FOLDER, node).ok()
     }

@@ -1,6 +1,7 @@
 //! The seat at a node.
 ghost use Rattle.std.specs.Prelude.{◌≡◌, ◌≤◌, IfOk, OnOk, is_some};
 ghost use Rattle.journal_core.specs.Peers.{FitsHeard};
+ghost use Rattle.pipe_seats.specs.Opened.{came_as, OpensAs};
 ghost use Rattle.pipe_seats.specs.Seats.{unopened_seat, IsSentAhead, IsHeardBack, IsCalledFrom};
 
 use crate::dialer::{Dialer, make_ready};
@@ -30,11 +31,11 @@ impl<S: Source, K: Sink> Model for NodeSeat<S, K> {
 
 impl<S: Source + Drop, K: Sink + Drop> NodeSeat<S, K> {
     /// A seat in this life of its caller, before its pipe's first opening.
-    pub(crate) fn unopened(life: u64) -> NodeSeat<S, K>
+    pub(crate) fn unopened(alloc: Global, life: u64) -> NodeSeat<S, K>
         ensures { result ≡ unopened_seat life }
     {
         NodeSeat {
-            pipe: NodePipe::unopened(life),
+            pipe: NodePipe::unopened(alloc, life),
             under_way: None,
         }
     }
@@ -48,6 +49,7 @@ impl<S: Source + Drop, K: Sink + Drop> NodeSeat<S, K> {
 
     /// Sends a request to this node, where none is under way. An `Err` is lack of memory, or tells
     /// that one is.
+    #[tactic(auto, using(crate::proofs::OpenedLaws::openings))]
     pub(crate) fn send<O: Opener<S, K>>(
         &mut self,
         alloc: Global,
@@ -57,6 +59,7 @@ impl<S: Source + Drop, K: Sink + Drop> NodeSeat<S, K> {
     ) -> Result<(), OutOfMemory>
         requires low { 1 ≤ node }
         ensures sent { OnOk result (IsSentAhead self.old self.new request.now) }
+        ensures came { OpensAs (came_as O.are_of S.left K.taken node) self.old.pipe self.new.pipe }
     {
         if self.under_way.is_some() {
             return Err(AllocError);
@@ -79,6 +82,7 @@ impl<S: Source + Drop, K: Sink + Drop> NodeSeat<S, K> {
     fn hear(&mut self, alloc: Global, request: &SharedRequest) -> Result<Heard, OutOfMemory>
         ensures heard { IfOk result (λ heard. IsHeardBack self.old self.new request.now heard) }
         ensures fits { IfOk result (λ heard. FitsHeard request.now heard) }
+        ensures opened { self.new.pipe.opened ≡ self.old.pipe.opened }
     {
         let Some(asked) = self.under_way.take() else {
             return Err(AllocError);
@@ -91,7 +95,7 @@ impl<S: Source + Drop, K: Sink + Drop> NodeSeat<S, K> {
 
     /// A call to this node: its request is sent, unless it is under way, and its reply heard. An
     /// `Err` is lack of memory, or tells that another request is under way.
-    #[tactic(auto, using(crate::proofs::SeatCalls::calls))]
+    #[tactic(auto, using(crate::proofs::SeatCalls::calls, crate::proofs::OpenedLaws::openings))]
     pub(crate) fn call<O: Opener<S, K>>(
         &mut self,
         alloc: Global,
@@ -102,6 +106,7 @@ impl<S: Source + Drop, K: Sink + Drop> NodeSeat<S, K> {
         requires low { 1 ≤ node }
         ensures called { IfOk result (λ heard. IsCalledFrom self.old self.new request.now heard) }
         ensures fits { IfOk result (λ heard. FitsHeard request.now heard) }
+        ensures came { OpensAs (came_as O.are_of S.left K.taken node) self.old.pipe self.new.pipe }
     {
         if self.is_under_way() {
             return self.hear(alloc, request);

@@ -5,6 +5,7 @@ ghost use Rattle.journal_history.specs.declared.record.Record.TheVariants.{Call,
 ghost use Rattle.mesh.specs.Makers.{heard_of};
 ghost use Rattle.play_calls.specs.Logs.{copy_call, earlier_call};
 ghost use Rattle.pipe_seats.specs.Seats.{unopened_seat};
+ghost use Rattle.pipe_seats.specs.Opened.{came_as, OpensAs, CameAsTheirs};
 ghost use Rattle.pipe_seats.specs.Piped.{new_seats, IsTold, WentFrom, IsCalledOver, AreLater, AreResting};
 
 use crate::dialer::Dialer;
@@ -34,6 +35,7 @@ fn deliver<S: Source + Drop, K: Sink + Drop, O: Opener<S, K>>(
     ensures told { IfOk result (λ told. IsTold delivery told) }
     ensures fits { IfOk result (λ told. FitsHeard request.now (heard_of told)) }
     ensures went { IfOk result (λ told. WentFrom (Call node request.now told) seat.old seat.new) }
+    ensures came { OpensAs (came_as O.are_of S.left K.taken node) seat.old.pipe seat.new.pipe }
 {
     match delivery {
         Delivery::NotDelivered => {
@@ -68,6 +70,7 @@ fn call_over<S: Source + Drop, K: Sink + Drop, O: Opener<S, K>>(
     ensures fits { IfOk result (λ heard. FitsHeard request heard) }
     ensures nodes { log.new.nodes ≡ log.old.nodes }
     ensures unlisted { OnErr result (log.new.past ≡ log.old.past) }
+    ensures came { OpensAs (came_as O.are_of S.left K.taken node) seat.old.pipe seat.new.pipe }
 {
     let delivery = log.delivery(node)?;
     let told = deliver(alloc, dialer, seat, node, delivery, &request)?;
@@ -98,6 +101,7 @@ fn copy_over<S: Source + Drop, K: Sink + Drop, O: Opener<S, K>>(
     ensures went { OnOk result (WentFrom (Late node request) seat.old seat.new) }
     ensures ok { OnOk result (log.new ≡ copy_call log.old node number request) }
     ensures nodes { log.new.nodes ≡ log.old.nodes }
+    ensures came { OpensAs (came_as O.are_of S.left K.taken node) seat.old.pipe seat.new.pipe }
 {
     let _ = seat.call(alloc, dialer, node, &request)?;
     log.copy(node, number, request)?;
@@ -113,21 +117,22 @@ fn copy_over<S: Source + Drop, K: Sink + Drop, O: Opener<S, K>>(
 /// a request that is longer than what a pipe holds is written while its node reads, and a pipe is
 /// opened again only for requests that are shorter than that.
 #[derive(Drop)]
-pub struct PipeSeats<S: Source, K: Sink, O> {
+pub struct PipeSeats<S: Source, K: Sink, O: Opener<S, K>> {
     seats: Vec<NodeSeat<S, K>>,
     log: CallerLog,
     dialer: Dialer<O>,
 }
 
-impl<S: Source, K: Sink, O> Model for PipeSeats<S, K, O> {
+impl<S: Source, K: Sink, O: Opener<S, K>> Model for PipeSeats<S, K, O> {
     ghost use Rattle.std.specs.Prelude.{◌≡◌, length};
     ghost use Rattle.pipe_seats.specs.Piped.{PipesView};
+    ghost use Rattle.pipe_seats.specs.Opened.{came_as, CameAsTheirs};
 
     ghost Value = { PipesView };
 
     ghost view = { λ s. record { seats = s.seats.items; log = s.log } };
 
-    ghost invariant = { λ s. length s.seats.items ≡ s.log.nodes };
+    ghost invariant = { λ s. (length s.seats.items ≡ s.log.nodes) × CameAsTheirs (came_as O.are_of S.left K.taken) s.seats.items };
 }
 
 /// A seat at each of so many nodes, before its pipe's first opening.
@@ -140,7 +145,7 @@ fn unopened_seats<S: Source + Drop, K: Sink + Drop>(
 {
     let mut seats = Vec::with_capacity(alloc, nodes)?;
     for _ in 0..nodes {
-        seats.push(NodeSeat::unopened(life))?;
+        seats.push(NodeSeat::unopened(alloc, life))?;
     }
     Ok(seats)
 }
@@ -176,6 +181,14 @@ impl<S: Source + Drop, K: Sink + Drop, O: Opener<S, K> + Drop> PipeSeats<S, K, O
             log,
             dialer: Dialer { opener, room },
         })
+    }
+
+    /// Does nothing. All ends that came when a pipe was opened are those that the opener gave as
+    /// the pipe's node's, as they were then.
+    pub fn came_as_theirs(&self)
+        ensures { CameAsTheirs (came_as O.are_of S.left K.taken) self.now.seats }
+    {
+        let _seats = &self.seats;
     }
 
     /// What was listed.

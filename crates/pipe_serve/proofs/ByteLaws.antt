@@ -143,7 +143,8 @@ feed_inside line front behind rest lost own more mid (x ∷ feed) l split f m so
     front_none (x ∷ xs) ys e = absurd cc
 
 stands : (line front behind rest lost own more : List ℕ) → IsLine line → line ++ 10 ∷ [] ≡ front ++ behind → front ++ rest ≡ lost ++ (own ++ 10 ∷ more) → Stands line front rest lost own more
-stands line front behind rest lost own more l split e = ⊎_elim (λ h. inside h) (λ h. inr (inr (record { lost_more = h.mid; lost_is = h.first; rest_is = h.last }))) (parted front rest lost (own ++ 10 ∷ more) e)
+stands line front behind rest lost own more l split e =
+    ⊎_elim (λ h. inside h) (λ h. inr (inr (record { lost_more = h.mid; lost_is = h.first; rest_is = h.last }))) (parted front rest lost (own ++ 10 ∷ more) e)
   where
     inside : IsInside front rest lost (own ++ 10 ∷ more) → Stands line front rest lost own more
     inside h = ⊎_elim

@@ -1,5 +1,6 @@
 -- From the bytes of two pipes to the calls of a life that a node got.
-use Rattle.std.proofs.Common.{ℕ, ◌≡◌, ◌≢◌, ◌<◌, ◌+◌, ◌^◌, ◌==◌, ◌⊎◌, inl, inr, Bool, true, false, List, [], ◌∷◌, ◌++◌, Some, map, refl, sym, ap, ◌∙◌, subst, arith, decimal, append_assoc, append-nil, ⊎_elim}
+use Rattle.std.proofs.Common.{ℕ, ◌≡◌, ◌≢◌, ◌<◌, ◌+◌, ◌^◌, ◌==◌, ◌⊎◌, inl, inr, Bool, true, false, List, [], ◌∷◌, ◌++◌, Some, map, refl}
+use Rattle.std.proofs.Common.{sym, ap, ◌∙◌, subst, arith, decimal, append_assoc, append-nil, ⊎_elim}
 use Rattle.std.specs.Prelude.{codes}
 use Rattle.std.specs.List.{AllByRecursion, concat, flat_map, list_all}
 use Rattle.std.specs.Str.Parse.{digits_value}
@@ -27,10 +28,13 @@ use Rattle.journal_text.proofs.Spaced.{NoSpace, decimal_no_space}
 use Rattle.journal_text.proofs.Texts.{replies_read}
 use Rattle.journal_session.specs.Lines.{IsLine}
 use Rattle.pipe_seats.specs.Tagged.{count, tagged}
+use Rattle.pipe_seats.proofs.LineParts.{parts}
 use Rattle.pipe_seats.specs.Tags.{Asked, GotAs, AreWritten, WasAsked, WasAnswered, IsHeardIn, WasHeard}
 use Rattle.pipe_seats.proofs.Counts.{count-append}
 use Rattle.pipe_serve.specs.Numbers.{AreSome}
-use Rattle.pipe_serve.specs.Bytes.{AreFronts, IsReadIn, HasText, CallerLife, asked_line, asked_lines, IsHeardOn, IsAskedOn, IsCallerLife, Taken, taken_line, reply_lines_by, reply_lines, IsAnsweredWith, IsTaken, SessionBytes, written_lines, IsSessionBytes, keep_got, gots_of, all_taken, AreAtPipes, IsOther, BytesKeepOrder}
+use Rattle.pipe_serve.specs.Bytes.{AreFronts, IsReadIn, HasText, CallerLife, asked_line, asked_lines, IsHeardOn, IsAskedOn, IsCallerLife}
+use Rattle.pipe_serve.specs.Bytes.{Taken, taken_line, reply_lines_by, reply_lines, IsAnsweredWith, IsTaken}
+use Rattle.pipe_serve.specs.Bytes.{SessionBytes, written_lines, IsSessionBytes, keep_got, gots_of, all_taken, AreAtPipes, IsOther, BytesKeepOrder}
 use Rattle.pipe_serve.proofs.ByteLaws.{IsSole, IsWhole, AreAmong, IsOneOf, AreSoleIn, all_after, all_among, one_read}
 use Rattle.pipe_serve.proofs.NumberLaws.{were_asked, order_kept}
 use Rattle.pipe_serve.proofs.TextLaws.{is_fair, IsFair, fair-append, fair_decimal, fair_spaced, fair_request, fair_reply}
@@ -82,7 +86,8 @@ sole_tagged life call text l c h = subst IsSole (sym (has_body life call text)) 
 
 whole_tagged : (life call : ℕ) (text : List ℕ) → life < 2 ^ 64 → call < 2 ^ 64 → IsFair text → IsWhole (tagged life call text)
 whole_tagged life call text l c h =
-    let is : IsLine ((35 ∷ body life call text) ++ 46 ∷ []) = line_on (35 ∷ body life call text) (46 ∷ []) (λ e. cc e, fair_line (body life call text) (body_fair life call text l c h)) (λ e. cc e, tt) in
+    let is : IsLine ((35 ∷ body life call text) ++ 46 ∷ []) =
+    line_on (35 ∷ body life call text) (46 ∷ []) (λ e. cc e, fair_line (body life call text) (body_fair life call text l c h)) (λ e. cc e, tt) in
     record { one = subst IsLine (sym (has_body life call text)) is; kind = inl (sole_tagged life call text l c h) }
 
 whole_bad : IsWhole (codes "bad")
@@ -106,11 +111,6 @@ same_number : (m n : ℕ) (b c : List ℕ) → m < 2 ^ 64 → n < 2 ^ 64 → dec
 same_number m n b c h k e =
     let s = same_word (decimal m) (decimal n) b c (decimal_no_space m h) (decimal_no_space n k) e in
     (sym (value_of_decimal m h) ∙ ap (digits_value 10) s.0 ∙ value_of_decimal n k, s.1)
-
-parts : (life call : ℕ) (text : List ℕ) → tagged life call text ≡ 35 ∷ (decimal life ++ 32 ∷ (decimal call ++ 32 ∷ (text ++ 32 ∷ 46 ∷ [])))
-parts life call text =
-    append_assoc ((35 ∷ decimal life) ++ (32 ∷ decimal call)) (32 ∷ text) (32 ∷ 46 ∷ [])
-    ∙ append_assoc (35 ∷ decimal life) (32 ∷ decimal call) (32 ∷ text ++ 32 ∷ 46 ∷ [])
 
 same_tags : (l m : ℕ) (t : List ℕ) (k n : ℕ) (u : List ℕ) → l < 2 ^ 64 → m < 2 ^ 64 → k < 2 ^ 64 → n < 2 ^ 64 → tagged l m t ≡ tagged k n u → (l ≡ k) × (m ≡ n) × (t ≡ u)
 same_tags l m t k n u wl wm wk wn e =

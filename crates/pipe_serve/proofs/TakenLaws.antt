@@ -55,7 +55,8 @@ module _ {N : Type 0} (Asked : N → Request → Reply → N → Type 0) where
         taken = call_of a.life a.call a.text h.1.asked.request a.reply ∷ rest.taken;
         are = (h.0, from a.life a.call a.text a.reply old h.0 h.1.asked, rest.are);
         lines = ap (λ (l : List ℕ). line ++ l) rest.lines;
-        fronts = λ more bytes k. (answering_line a, flat_map answering_line calls ++ bytes, whole_front (answering_line a), append_assoc (answering_line a) (flat_map answering_line calls) bytes, rest.fronts more bytes k);
+        fronts = λ more bytes k.
+            (answering_line a, flat_map answering_line calls ++ bytes, whole_front (answering_line a), append_assoc (answering_line a) (flat_map answering_line calls) bytes, rest.fronts more bytes k);
       }
 
   are_on : (taken : List Taken) (t : Taken) (old mid new : N) → AreTakenFrom Asked taken old mid → IsTakenFrom Asked t mid new → AreTakenFrom Asked (taken ++ t ∷ []) old new
@@ -118,7 +119,8 @@ module _ {N : Type 0} (Asked : N → Request → Reply → N → Type 0) where
   ended_over old new source sink h (inr (inr (inr e))) =
       no_more h.calls old h.node new source sink h.are h.part h.written h.rest e.same h.read (front_of_none h.part (codes "bad" ++ 10 ∷ []) e.said)
 
-  pub took_lines : (end : SessionEnd) (old new : N) (source : SourceUse) (sink : SinkUse) → end ≢ session_end.OutOfMemory → IsSession Asked end old new source sink → TookLines Asked old new source sink
+  pub took_lines : (end : SessionEnd) (old new : N) (source : SourceUse) (sink : SinkUse) → end ≢ session_end.OutOfMemory → IsSession Asked end old new source sink
+      → TookLines Asked old new source sink
   took_lines session_end.Over old new source sink off h = ended_over old new source sink h h.ends
   took_lines session_end.DiskFault old new source sink off h =
       let e = h.ends in

@@ -1,5 +1,6 @@
 -- The bytes of texts: spaces, and digits and letters. So no sign, point or line feed is among them.
-use Rattle.std.proofs.Common.{ℕ, ◌≡◌, ◌<◌, ◌≤◌, ◌+◌, ◌-◌, ◌^◌, ◌/◌, ◌%◌, ◌==◌, ◌||◌, nat_le, List, [], ◌∷◌, ◌++◌, length, drop, Option, Some, None, Bool, true, false, cond, refl, sym, subst, arith, decimal}
+use Rattle.std.proofs.Common.{ℕ, ◌≡◌, ◌<◌, ◌≤◌, ◌+◌, ◌-◌, ◌^◌, ◌/◌, ◌%◌, ◌==◌, ◌||◌, nat_le, List, [], ◌∷◌, ◌++◌, length, drop, Option}
+use Rattle.std.proofs.Common.{Some, None, Bool, true, false, cond, refl, sym, subst, arith, decimal}
 use Rattle.std.specs.Prelude.{codes}
 use Rattle.std.specs.List.{AllByRecursion, list_all}
 use Rattle.std.specs.Str.{bytes_eq}
@@ -22,7 +23,8 @@ use Rattle.journal_core.specs.declared.request.Request.{Request}
 use Rattle.journal_core.specs.declared.segment_info.SegmentInfo.{SegmentInfo}
 use Rattle.journal_core.specs.Refusals.{refusal_number, refusal_name, refusal_field}
 use Rattle.journal_text.specs.Exact.{IsWide, AreWide, IsWideIf, IsReadable}
-use Rattle.journal_text.specs.Reading.{word_text, all_words, word_among, word_of, leasts_of, number_in, put_first, numbers_in, body_of_size, body_in, bodies_in, by_bodies, by_numbers, by_count, by_word, reading_of}
+use Rattle.journal_text.specs.Reading.{word_text, all_words, word_among, word_of, leasts_of, number_in, put_first, numbers_in}
+use Rattle.journal_text.specs.Reading.{body_of_size, body_in, bodies_in, by_bodies, by_numbers, by_count, by_word, reading_of}
 use Rattle.journal_text.specs.Texts.{spaced, numbers_text, bodies_text, kind_text, accepted_text, told_text, newest_text, field_text, reply_text}
 use Rattle.journal_text.specs.declared.request_line.ReadRequest.TheVariants.{Read}
 use Rattle.journal_text.specs.declared.request_word.RequestWord.{RequestWord}

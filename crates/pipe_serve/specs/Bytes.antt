@@ -18,12 +18,13 @@ use Rattle.journal_text.specs.Reading.{reading_of}
 use Rattle.journal_text.specs.Texts.{request_text, reply_text}
 use Rattle.journal_text.specs.declared.request_line.ReadRequest.TheVariants.{Read}
 use Rattle.journal_session.specs.Lines.{lines_text}
+use Rattle.pipe_seats.specs.Calls.{EndsView}
 use Rattle.pipe_seats.specs.Tagged.{tagged}
 use Rattle.pipe_seats.specs.Tags.{Asked, GotAs, KeepOrder}
 use Rattle.pipe_serve.specs.declared.session_end.SessionEnd.{SessionEnd}
 use Rattle.pipe_serve.specs.declared.session_end.SessionEnd.TheVariants as session_end
 use Rattle.pipe_serve.specs.Sessions.{IsFront, SourceUse, SinkUse, IsSession}
-use Rattle.pipe_serve.specs.Numbers.{AreNumbered, CallUse, asked_at, IsUse}
+use Rattle.pipe_serve.specs.Numbers.{AreNumbered, CallUse, asked_at, IsUse, GoOver}
 
 -- ## A pipe
 -- these stand in the bytes, one behind the other; what stands between two of them was lost
@@ -112,12 +113,39 @@ life_by life uses = record { life = life; asked = map asked_at uses; wrote = fla
 abbrev pub IsKnown : Option (List ℕ) → Type 0
 IsKnown o = (bytes : List ℕ) × (o ≡ Some bytes)
 
+-- what was to be read before a call that was answered, and after it
+abbrev pub AreKnownIf : Told → Option (List ℕ) → Option (List ℕ) → Type 0
+AreKnownIf (told.Reply reply) before after = IsKnown before × IsKnown after
+AreKnownIf told.Dropped before after = Unit {0}
+AreKnownIf told.Muted before after = Unit {0}
+AreKnownIf told.Silent before after = Unit {0}
+
 -- the ends told their bytes
 pub record TellsBytes (u : CallUse) : Type 0 where
   pub taken_then : IsKnown u.taken_then
   pub taken_now : IsKnown u.taken_now
-  pub left_then : IsKnown u.left_then
-  pub left_now : IsKnown u.left_now
+  pub left : AreKnownIf u.asked.told u.left_then u.left_now
+
+-- so do ends as they were opened
+pub record TellsEnds (ends : EndsView) : Type 0 where
+  pub taken : IsKnown ends.taken
+  pub left : IsKnown ends.left
+
+-- it was answered, or nothing was heard
+abbrev pub IsUnmarked : Told → Type 0
+IsUnmarked (told.Reply reply) = Unit {0}
+IsUnmarked told.Dropped = ⊥
+IsUnmarked told.Muted = ⊥
+IsUnmarked told.Silent = Unit {0}
+
+abbrev pub GoesUnmarked : CallUse → Type 0
+GoesUnmarked u = IsUnmarked u.asked.told
+
+-- where those do that came at openings, the ends told their bytes at each call
+abbrev pub EndsTellBytes : Type 0
+EndsTellBytes =
+    (life : ℕ) (opened : List EndsView) (uses : List CallUse) → AllByRecursion (IsUse life) uses → AllByRecursion GoesUnmarked uses → GoOver None opened uses
+    → AllByRecursion TellsEnds opened → AllByRecursion TellsBytes uses
 
 abbrev pub HasTextIf : Request → Told → Type 0
 HasTextIf r (told.Reply reply) = HasText r reply

@@ -1,5 +1,5 @@
 -- The numbers of a life's calls to a node, as its pipe saw them, and what a node got of them.
-use Rattle.std.specs.Prelude.{ℕ, ◌≡◌, ◌⊎◌, List, [], ◌∷◌, map, Option}
+use Rattle.std.specs.Prelude.{ℕ, ◌≡◌, ◌⊎◌, List, [], ◌∷◌, ◌++◌, map, Option, Some, None}
 use Rattle.std.specs.List.{AllByRecursion}
 use Rattle.base_outside.specs.Whole.{TakesFront}
 use Rattle.journal_core.specs.declared.request.Request.{Request}
@@ -13,7 +13,7 @@ use Rattle.journal_text.specs.Lines.{IsRequest}
 use Rattle.journal_text.specs.Reading.{reading_of}
 use Rattle.journal_text.specs.Texts.{request_text}
 use Rattle.journal_text.specs.declared.request_line.ReadRequest.TheVariants.{Read}
-use Rattle.pipe_seats.specs.Calls.{PipeView, unopened, request_line, IsReplyRead}
+use Rattle.pipe_seats.specs.Calls.{EndsView, PipeView, unopened, request_line, IsReplyRead}
 use Rattle.pipe_seats.specs.Piped.{Goes}
 use Rattle.pipe_seats.specs.Tags.{Asked, GotAs, AreWritten, WasHeard, KeepOrder}
 use Rattle.pipe_serve.specs.Sessions.{Answered}
@@ -78,16 +78,54 @@ pub record IsUse (life : ℕ) (u : CallUse) : Type 0 where
   pub wrote : TakesFront u.taken_then u.taken_now (request_line life u.asked.number u.asked.request)
   pub read : IsReadFrom life u.asked.number u.asked.request u.asked.told u.left_then u.left_now
 
+-- the ends after a call, by what was told of it: after silence they aren't in use
+abbrev pub in_use_after : Told → EndsView → Option EndsView
+in_use_after (told.Reply reply) ends = Some ends
+in_use_after told.Dropped ends = Some ends
+in_use_after told.Muted ends = Some ends
+in_use_after told.Silent ends = None
+
+-- as the call left them
+abbrev pub ends_after : CallUse → Option EndsView
+ends_after u = in_use_after u.asked.told (record { taken = u.taken_now; left = u.left_now })
+
+-- the call went over these ends, as they were
+pub record IsOver (ends : EndsView) (u : CallUse) : Type 0 where
+  pub taken : u.taken_then ≡ ends.taken
+  pub left : u.left_then ≡ ends.left
+
+-- if there are any
+abbrev pub IsOverThese : Option EndsView → CallUse → Type 0
+IsOverThese None u = ⊥
+IsOverThese (Some ends) u = IsOver ends u
+
+-- the call went over one pair of these ends, and of those behind it this holds
+pub record IsOverNext (u : CallUse) (opened : List EndsView) (Rest : List EndsView → Type 0) : Type 0 where
+  pub before : List EndsView
+  pub ends : EndsView
+  pub more : List EndsView
+  pub are : opened ≡ before ++ ends ∷ more
+  pub over : IsOver ends u
+  pub rest : Rest more
+
+-- Call by call: each went over the ends of the one before it, as that left them, or over later ones
+-- of those that came at an opening, as they were then. After silence it is over later ones.
+abbrev pub GoOver : Option EndsView → List EndsView → List CallUse → Type 0
+GoOver now opened [] = Unit {0}
+GoOver now opened (u ∷ uses) = (IsOverThese now u × GoOver (ends_after u) opened uses) ⊎ IsOverNext u opened (λ more. GoOver (ends_after u) more uses)
+
 -- of each call whose line was begun a front was written, numbered in their order, and what was heard
--- was read
-pub record WroteLines (node life n : ℕ) (rs : List Record) : Type 0 where
+-- was read, of ends that came at these openings, in their order, behind those that there were
+pub record WroteLines (node life n : ℕ) (rs : List Record) (now : Option EndsView) (opened : List EndsView) : Type 0 where
   pub uses : List CallUse
   pub written : AreWritten node n rs (map asked_at uses)
   pub each : AllByRecursion (IsUse life) uses
+  pub over : GoOver now opened uses
 
--- so it is in each life over a pipe
+-- so it is in each life over a pipe, of which there were no ends at first
 abbrev pub CallsWriteLines : Type 0
-CallsWriteLines = (node life : ℕ) (rs : List Record) (pipe : PipeView) → AllByRecursion IsMade rs → Goes node rs (unopened life) pipe → WroteLines node life 0 rs
+CallsWriteLines =
+    (node life : ℕ) (rs : List Record) (pipe : PipeView) → AllByRecursion IsMade rs → Goes node rs (unopened life) pipe → WroteLines node life 0 rs None pipe.opened
 
 -- ## What a node got
 -- these are some of the calls that were written, in their order

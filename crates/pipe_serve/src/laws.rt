@@ -1,5 +1,5 @@
 //! The laws of what a life's calls and their lines have to do with each other.
-ghost use Rattle.pipe_serve.specs.Bytes.{BytesKeepOrder, SessionsTakeLines, UsesAreLives};
+ghost use Rattle.pipe_serve.specs.Bytes.{BytesKeepOrder, EndsTellBytes, SessionsTakeLines, UsesAreLives};
 ghost use Rattle.pipe_serve.specs.Numbers.{CallsAreNumbered, CallsWriteLines, LinesKeepOrder, SessionsKeepOrder};
 
 use journal_session::SessionNode;
@@ -11,7 +11,8 @@ pub fn calls_are_numbered()
 {}
 
 /// Of each call of a life to a node whose line was begun a front of that line was written, and a
-/// reply that was heard was read of the pipe, behind lines that answer other calls.
+/// reply that was heard was read of the pipe, behind lines that answer other calls. Each went over
+/// the ends of the call before, as that left them, or over the next ones that came at an opening.
 pub fn calls_write_lines()
     ensures { CallsWriteLines }
 {}
@@ -38,6 +39,12 @@ pub fn sessions_take_lines<N: SessionNode>()
 /// behind the other, and read the lines of what it heard.
 pub fn uses_are_lives()
     ensures { UsesAreLives }
+{}
+
+/// Where all ends that came at openings tell their bytes, and no reply is withheld, the ends tell
+/// them at each of those calls.
+pub fn ends_tell_bytes()
+    ensures { EndsTellBytes }
 {}
 
 /// Where pipes keep the order of their bytes and invent none, the lines of a life that the sessions

@@ -21,8 +21,8 @@ pub use byte_examples::{a_line_behind_a_cut_one, bytes_are_kept};
 pub use client_pipes::ClientPipes;
 pub use clients::serve_clients;
 pub use laws::{
-    bytes_keep_order, calls_are_numbered, calls_write_lines, lines_keep_order, sessions_keep_order,
-    sessions_take_lines, uses_are_lives,
+    bytes_keep_order, calls_are_numbered, calls_write_lines, ends_tell_bytes, lines_keep_order,
+    sessions_keep_order, sessions_take_lines, uses_are_lives,
 };
 pub use ports::Ports;
 pub use served::{ServeEnd, Served};

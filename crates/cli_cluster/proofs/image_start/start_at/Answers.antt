@@ -19,7 +19,8 @@ returns-clause-starts g c = λ t n.
           starts_two files c.args.last c.in_ok-before.before w.in_ok-older.older c.in_ok-standby.standby c.save-2.new.self n (c.in_ok-before.ensures.second t)
           (at_image files (g.D.DiskModel.view c.older_than.new.disk).seen c.in_ok-before.before w.in_ok-older.older s1.1 (w.in_ok-older.ensures.at s1.0))
           (at_image files (g.D.DiskModel.view c.if-before-last.disk).seen c.args.last c.in_ok-standby.standby same (c.in_ok-standby.ensures.at told))
-          (c.in_ok-save-2.ensures ∙ ap (λ (is : List Image). one_saved is c.in_ok-standby.standby) (w.images-is ∙ w.in_ok-save.ensures ∙ ap (λ (is : List Image). one_saved is w.in_ok-older.older) c.new-images.ensures))
+          (c.in_ok-save-2.ensures ∙ ap (λ (is : List Image). one_saved is c.in_ok-standby.standby)
+          (w.images-is ∙ w.in_ok-save.ensures ∙ ap (λ (is : List Image). one_saved is w.in_ok-older.older) c.new-images.ensures))
       | else-before-last w ↦
           let told = subst (λ d. g.D.DiskModel.tells d) (sym w.disk-is) s1.0 in
           let same = ap (λ d. (g.D.DiskModel.view d).seen) w.disk-is ∙ s1.1 in

@@ -20,8 +20,9 @@ pub returns-in-Some-answer_in_time-clause-led : goal.returns-in-Some-answer_in_t
 returns-in-Some-answer_in_time-clause-led g c =
     let came : end_of c.next_line.result ≡ None = cc (c.in_default-end_at.ensures, c.in_default-end_at.is, c.end_at.ensures) in
     let line : c.line.result.now ≡ c.next_line.new.self.line = cc (c.line.ensures.bytes, c.count_anew.ensures.line) in
-    lines_cut c.next_line.result c.in-Some-answer_in_time.end c.line.result.now (g.A.Actor.seen c.args.by.now) (g.A.Actor.seen c.loop.by) (g.A.Actor.seen c.answer_in_time.new.by) c.args.seats.now c.loop.seats
-    c.answer_in_time.new.seats c.loop.reader c.next_line.new.self (g.I.Source.left c.args.source.now) (g.I.Source.left c.loop.source) (g.I.Source.left c.next_line.new.source)
+    lines_cut c.next_line.result c.in-Some-answer_in_time.end c.line.result.now (g.A.Actor.seen c.args.by.now) (g.A.Actor.seen c.loop.by) (g.A.Actor.seen c.answer_in_time.new.by)
+    c.args.seats.now c.loop.seats c.answer_in_time.new.seats c.loop.reader c.next_line.new.self
+    (g.I.Source.left c.args.source.now) (g.I.Source.left c.loop.source) (g.I.Source.left c.next_line.new.source)
     (g.P.Sink.taken c.args.sink.now) (g.P.Sink.taken c.loop.sink) (g.P.Sink.taken c.answer_in_time.new.sink) c.loop.counter c.loop.invariant.so_far c.next_line.ensures.next came line
     c.in-Some-answer_in_time.ensures.answered
 

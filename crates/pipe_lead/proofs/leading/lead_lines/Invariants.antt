@@ -6,7 +6,8 @@ use Rattle.pipe_lead.proofs.leading.lead_lines.Given as goal
 -- each line so far was taken, and what is told of it written; nothing failed
 abbrev pub invariant-loop : goal.invariant-loop
 invariant-loop g l = record {
-  so_far : LedSoFar l.fn.seats.log.nodes (g.A.Actor.seen l.fn.by) (g.A.Actor.seen l.by) l.fn.seats l.seats (to_come fresh_reader (g.I.Source.left l.fn.source)) (to_come l.reader (g.I.Source.left l.source))
+  so_far : LedSoFar l.fn.seats.log.nodes (g.A.Actor.seen l.fn.by) (g.A.Actor.seen l.by) l.fn.seats l.seats (to_come fresh_reader (g.I.Source.left l.fn.source))
+      (to_come l.reader (g.I.Source.left l.source))
       (g.P.Sink.taken l.fn.sink) (g.P.Sink.taken l.sink) true l.counter;
   anew : l.reader.taken ≡ 0;
   read : g.I.Source.faults l.source ≡ g.I.Source.faults l.fn.source;
