@@ -4,10 +4,13 @@ Everything is made after docs/FORMATS.md, EDITS.md and FILES.md. A case is a lis
 standard input; and the files that the folder has before the first step.
 """
 import hashlib
+import os
 import struct
 from dataclasses import dataclass, field
 
 LARGEST = 1 << 62
+# Where scratch folders stand: in memory, where there is such a place.
+SHARED = '/dev/shm' if os.access('/dev/shm', os.W_OK) else None
 
 
 @dataclass

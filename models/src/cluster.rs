@@ -25,14 +25,15 @@ enum State {
 }
 
 /// One node: how it is, the stop that it holds (the calls until then, and where inside), and its history.
-struct Seat {
+pub struct Seat {
     state: State,
     arming: Option<(u64, Inside)>,
     history: Lines,
 }
 
 impl Seat {
-    fn new() -> Seat {
+    /// A fresh node.
+    pub fn new() -> Seat {
         let node = Node::new(MemoryDisk::default(), [0; 3], BTreeMap::new());
         Seat { state: State::Up(node), arming: None, history: Lines::default() }
     }
@@ -60,12 +61,12 @@ impl Seat {
     }
 
     /// The request at the node: its reply, or how many effects stand where the node was stopped inside.
-    fn answer(&mut self, request: &Request) -> Result<Reply, u64> {
+    pub fn answer(&mut self, request: &Request) -> Result<Reply, u64> {
         let State::Up(node) = &mut self.state else {
             return Ok(Reply::Refused(Refusal::bare(Reason::Down)));
         };
         if let Some((left, inside)) = &mut self.arming {
-            *left -= 1;
+            *left = left.saturating_sub(1);
             if *left == 0 {
                 let stand = match *inside {
                     Inside::Effects(effects) => node.stop(request, effects),
@@ -79,7 +80,7 @@ impl Seat {
     }
 
     /// Does what the operator wants; whether the node wasn't already so.
-    fn operate(&mut self, order: Order) -> bool {
+    pub fn operate(&mut self, order: Order) -> bool {
         let is_up = matches!(self.state, State::Up(_));
         match order {
             Order::Kill => self.go_down(),

@@ -6,6 +6,7 @@ mod back;
 mod batch;
 mod boot;
 mod caller;
+mod chores;
 mod cluster;
 mod disk;
 mod edit;
@@ -14,7 +15,10 @@ mod folder;
 mod fsck;
 mod generated;
 mod image;
+mod images;
 mod json;
+mod judge;
+mod lists;
 mod md5;
 mod mirror;
 mod names;
@@ -127,6 +131,7 @@ fn run(words: &[&str]) -> Ending {
         ["piped"] => with_script(piped),
         ["mirror"] => with_script(mirror),
         ["boot"] => with_script(boot),
+        ["judge"] => judge(),
         ["node"] => serve::serve(),
         ["serve", clients] => pipes::serve(number(clients)),
         ["lead", nodes] => pipes::lead(number(nodes) as usize),
@@ -186,6 +191,15 @@ fn boot(script: &[u8]) -> Result<Ending, BadLine> {
         Some(text) => Ending::Ok(text),
         None => Ending::Limit(play::LONGEST_REPORT as u64),
     })
+}
+
+/// Judges the report on the standard input.
+fn judge() -> Ending {
+    let Ok(report) = ends::read_all(play::LONGEST_REPORT) else { return Ending::ReadFault };
+    if report.len() > play::LONGEST_REPORT {
+        return Ending::Limit(play::LONGEST_REPORT as u64);
+    }
+    judge::judge(&report).unwrap_or_else(|bad| Ending::BadReport { line: bad.line, rule: bad.rule })
 }
 
 /// Lists a file of the current folder.

@@ -3,11 +3,13 @@
 use crate::batch::Batch;
 use crate::ends::{self, Ending};
 use crate::folder::Folder;
+use crate::images;
 use crate::node::Node;
 use crate::play::Play;
 use crate::reply::Reply;
 use crate::request::Request;
 use crate::serve::{self, open_folder};
+use crate::standby::Standby;
 use crate::words::{push_number, push_padded, read_number, read_padded, LARGEST};
 use std::fs::{self, File, OpenOptions};
 use std::io::{self, BufRead, BufReader, Read, Write};
@@ -42,7 +44,7 @@ fn begin_tagged(line: &mut Vec<u8>, life: u64, call: u64) {
     line.push(b' ');
 }
 
-/// The next line that an LF ends, without it; false where there is none, or it is too long.
+/// The next line that an LF ends, without it; false where there is none, or it is too long: then it has the longest line's bytes.
 fn read_line(source: &mut BufReader<File>, line: &mut Vec<u8>) -> io::Result<bool> {
     line.clear();
     source.by_ref().take(LONGEST_LINE as u64 + 1).read_until(b'\n', line)?;
@@ -103,7 +105,14 @@ fn open_to_answer(client: usize) -> io::Result<(File, File)> {
 fn serve_session(node: &Mutex<Node<Folder>>, source: File, mut sink: File) -> io::Result<Option<Ending>> {
     let mut source = BufReader::with_capacity(64 * 1024, source);
     let (mut line, mut out, mut room) = (Vec::new(), Vec::new(), Batch::new());
-    while read_line(&mut source, &mut line)? {
+    loop {
+        if !read_line(&mut source, &mut line)? {
+            // (the front of a line is none, and nothing is told of it)
+            if line.len() < LONGEST_LINE {
+                return Ok(None);
+            }
+            break;
+        }
         let Some((life, call, text)) = read_tagged(&line) else { break };
         let Ok(request) = Request::read(text, &mut room) else { break };
         begin_tagged(&mut out, life, call);
@@ -114,9 +123,7 @@ fn serve_session(node: &Mutex<Node<Folder>>, source: File, mut sink: File) -> io
         out.extend_from_slice(b" .\n");
         sink.write_all(&out)?;
     }
-    if !line.is_empty() {
-        sink.write_all(b"bad\n")?;
-    }
+    sink.write_all(b"bad\n")?;
     Ok(None)
 }
 
@@ -182,7 +189,7 @@ impl FarNode {
             }
             let (life, call, text) = read_tagged(&self.line)?;
             if (life, call) == (self.life, self.calls) {
-                return Reply::read(text).filter(|reply| reply.fits(request));
+                return Reply::read(text, request);
             }
         }
     }
@@ -198,7 +205,11 @@ pub fn lead(nodes: usize) -> Ending {
         Ok(life) => life,
         Err(ending) => return ending,
     };
-    let mut play = Play::over((1..=nodes).map(|number| FarNode::new(number, life)).collect());
+    let standby = match images::load_newest() {
+        Ok(images) => Standby::with_images(images),
+        Err(ending) => return ending,
+    };
+    let mut play = Play::over((1..=nodes).map(|number| FarNode::new(number, life)).collect(), standby);
     let (mut lines, mut line, mut used) = (BufReader::new(ends::input()), Vec::new(), 0);
     loop {
         match read_line(&mut lines, &mut line) {
@@ -213,6 +224,13 @@ pub fn lead(nodes: usize) -> Ending {
             _ => used,
         };
         let mut told = play.answer(&line, nodes);
+        // (an image is in the folder before its result is written)
+        if told.starts_with(b"= checkpoint") {
+            let image = play.first_standby().and_then(Standby::image);
+            if image.is_some_and(|image| images::save(image).is_err()) {
+                return Ending::DiskFault;
+            }
+        }
         if used > MOST_USED {
             used = 0;
             told.extend(play.answer(b"roll", nodes));

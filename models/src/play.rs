@@ -12,14 +12,14 @@ use crate::script::{BadLine, Line, Script};
 use crate::space::Refused;
 use crate::standby::{Standby, Tailed};
 use crate::text::{self, Lines};
-use crate::words::{first_word, push_next_number};
+use crate::words::push_next_number;
 use crate::writer::{Failure, Net, Writer};
 
 /// The most bytes of a report. FORMATS.md, "The program", status 4.
 pub const LONGEST_REPORT: usize = 268_435_456;
 
-/// What `lead` is called in its own lines.
-const LEAD: &[u8] = b"lead";
+/// The actor of `lead` in the script that its lines make. FORMATS.md, "The program".
+const LEAD: &[u8] = b"a";
 
 /// An actor: its writer, and what it has beside it where the script has names.
 struct Actor {
@@ -110,21 +110,21 @@ impl Play {
     }
 
     /// The play of a name node alone, over nodes at the far ends of pipes.
-    pub fn over(far: Vec<FarNode>) -> Play {
+    pub fn over(far: Vec<FarNode>, standby: Standby) -> Play {
         let mut cluster = Cluster::over(far);
         let caller = Caller::new(LEAD, &mut cluster, false);
-        let actor = Actor { caller, writer: Writer::default(), standby: Some(Standby::new()) };
+        let actor = Actor { caller, writer: Writer::default(), standby: Some(standby) };
         Play { cluster, actors: vec![actor], with_names: true, ..Play::new(false, false) }
     }
 
     /// Takes a line of the name node alone, without its name; its result lines.
     pub fn answer(&mut self, text: &[u8], nodes: usize) -> Vec<u8> {
-        let name = first_word(text);
-        let line = [name, b" ", LEAD, &text[name.len()..], b"\n"].concat();
+        let (word, rest) = text.split_at(text.iter().position(|&byte| byte == b' ').unwrap_or(text.len()));
+        let line = [word, b" ", LEAD, rest, b"\n"].concat();
         match Script::of_line(&line, LEAD, nodes).next() {
             _ if text.is_empty() || text.starts_with(b"#") => {}
             Some(Ok(line @ (Line::Takeover(_) | Line::Submit(..) | Line::Roll(_) | Line::Close(_) | Line::Tail(_)))) => self.take(line),
-            Some(Ok(line @ (Line::Checkpoint(_) | Line::Reload(_)))) => self.take(line),
+            Some(Ok(line @ (Line::Checkpoint(_) | Line::Reload(_) | Line::Trim(..)))) => self.take(line),
             Some(Err(bad)) => self.tell_number(0, b"= bad", bad.rule),
             _ => self.tell_number(0, b"= bad", 2),
         }
@@ -151,8 +151,8 @@ impl Play {
             Line::Takeover(actor) => self.take_over(actor),
             Line::Log(actor, batch) => self.log(actor, batch),
             Line::Submit(actor, edits) => self.submit(actor, &edits),
-            Line::Roll(actor) => self.end_segment(actor, b"= roll", Writer::roll),
-            Line::Close(actor) => self.end_segment(actor, b"= close", Writer::close),
+            Line::Roll(actor) => self.end_segment(actor, b"= roll", |writer, net| writer.roll(net)),
+            Line::Close(actor) => self.end_segment(actor, b"= close", |writer, net| writer.close(net)),
             Line::Purge(actor, below) => self.purge(actor, below),
             Line::Trim(actor, extra) => self.trim(actor, extra),
             Line::Tail(actor) => self.tail(actor),
@@ -409,6 +409,11 @@ impl Play {
     }
 
     // ## What comes of it
+
+    /// What the first actor has beside its writer.
+    pub fn first_standby(&self) -> Option<&Standby> {
+        self.actors.first().and_then(|actor| actor.standby.as_ref())
+    }
 
     /// The position of the actor of this name; 0 where there is none.
     pub fn position(&self, name: &[u8]) -> u64 {

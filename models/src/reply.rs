@@ -2,7 +2,7 @@
 
 use crate::batch::{Batch, Bodies};
 use crate::request::{push_bodies, Request};
-use crate::words::{push_next_number, push_number, read_number, split_words};
+use crate::words::{push_next_number, push_number, read_number, split_words, LARGEST};
 
 /// What a refusal is for; its number is its place in the table of FORMATS.md, "Replies".
 #[derive(Clone, Copy, PartialEq, Eq)]
@@ -22,6 +22,7 @@ pub enum Reason {
     LengthDiffers,
     Purged,
     NotHere,
+    DiskFault,
     BadFile = 18,
 }
 
@@ -43,6 +44,11 @@ impl Refusal {
         Refusal { reason, field: Some(field) }
     }
 
+    /// Whether refusals for such a reason have a field.
+    fn has_field(reason: Reason) -> bool {
+        !matches!(reason, Reason::Down | Reason::NoOpenSegment | Reason::NoSegment | Reason::DiskFault | Reason::BadFile)
+    }
+
     /// The name of its reason.
     pub fn name(&self) -> &'static str {
         match self.reason {
@@ -61,6 +67,7 @@ impl Refusal {
             Reason::LengthDiffers => "LengthDiffers",
             Reason::Purged => "Purged",
             Reason::NotHere => "NotHere",
+            Reason::DiskFault => "DiskFault",
             Reason::BadFile => "BadFile",
         }
     }
@@ -94,8 +101,8 @@ pub enum Reply {
     Refused(Refusal),
 }
 
-/// All reasons, in order of number.
-const REASONS: [Reason; 16] = [
+/// All reasons of which a text is read, in order of number. A node without memory tells no reply.
+const REASONS: [Reason; 17] = [
     Reason::Down,
     Reason::Limit,
     Reason::EpochRefused,
@@ -111,51 +118,35 @@ const REASONS: [Reason; 16] = [
     Reason::LengthDiffers,
     Reason::Purged,
     Reason::NotHere,
+    Reason::DiskFault,
     Reason::BadFile,
 ];
 
 impl Reply {
-    /// Reads a reply's text; none where it is none that a name node asks for.
-    pub fn read(text: &[u8]) -> Option<Reply> {
+    /// Reads a reply's text; none where it is none that answers the request. FORMATS.md, "Replies".
+    pub fn read(text: &[u8], request: &Request) -> Option<Reply> {
         let mut words = split_words(text);
-        let name = words.next()?;
-        let mut number = || words.next().and_then(read_number);
-        Some(match name {
-            b"ok" => Reply::Ok,
-            b"state" => Reply::State(number()?),
-            b"new" => Reply::NewEpoch(number()),
-            b"prepared" => {
-                let (writer, committed) = (number()?, number()?);
-                let segment = number().map(|start| read_segment(start, &mut words));
-                Reply::Prepared { writer, committed, segment: segment.map_or(Some(None), |segment| segment.map(Some))? }
+        let reply = match (words.next()?, request) {
+            (b"refused", _) => Reply::Refused(read_refusal(&mut words)?),
+            (b"state", Request::State) => Reply::State(read_number(words.next()?)?),
+            (b"new", Request::NewEpoch(_)) => Reply::NewEpoch(match words.next()? {
+                b"none" => None,
+                start => Some(read_number(start)?),
+            }),
+            (b"prepared", Request::Prepare(..)) => {
+                let (writer, committed) = (read_number(words.next()?)?, read_number(words.next()?)?);
+                let segment = match words.next()? {
+                    b"none" => None,
+                    start => Some(read_segment(read_number(start)?, &mut words)?),
+                };
+                Reply::Prepared { writer, committed, segment }
             }
-            b"edits" => {
-                let (first, mut batch) = (number()?, Batch::new());
-                if !words.all(|word| batch.push_word(word)) {
-                    return None;
-                }
-                batch.close(first);
-                Reply::Edits(Edits { first, count: batch.count(), entries: batch.entries().to_vec() })
-            }
-            b"refused" => {
-                let told = number()?;
-                let reason = *REASONS.iter().find(|reason| **reason as u64 == told)?;
-                words.next()?;
-                Reply::Refused(Refusal { reason, field: words.next().and_then(read_number) })
-            }
+            (b"edits", &(Request::Fetch(_, _, from) | Request::Read(from))) => Reply::Edits(read_edits(from, &mut words)?),
+            (b"ok", Request::Start(..) | Request::Journal(..) | Request::Finalize(..)) => Reply::Ok,
+            (b"ok", Request::Accept(..) | Request::Purge(..)) => Reply::Ok,
             _ => return None,
-        })
-    }
-
-    /// Whether it answers such a request.
-    pub fn fits(&self, request: &Request) -> bool {
-        match request {
-            Request::State => matches!(self, Reply::State(_)),
-            Request::NewEpoch(_) => matches!(self, Reply::NewEpoch(_) | Reply::Refused(_)),
-            Request::Prepare(..) => matches!(self, Reply::Prepared { .. } | Reply::Refused(_)),
-            Request::Fetch(..) | Request::Read(_) => matches!(self, Reply::Edits(_) | Reply::Refused(_)),
-            _ => matches!(self, Reply::Ok | Reply::Refused(_)),
-        }
+        };
+        words.next().is_none().then_some(reply)
     }
 
     /// Appends the reply's text.
@@ -185,10 +176,36 @@ impl Reply {
 
 /// ` KIND E A END` behind a segment's start.
 fn read_segment<'a>(start: u64, words: &mut impl Iterator<Item = &'a [u8]>) -> Option<SegmentState> {
-    let is_final = words.next()? == b"final";
+    let is_final = read_choice(words.next()?, b"final", b"inprogress")?;
     let epoch = read_number(words.next()?)?;
-    let is_accepted = words.next()? == b"yes";
+    let is_accepted = read_choice(words.next()?, b"yes", b"no")?;
     Some(SegmentState { start, end: read_number(words.next()?)?, epoch, is_final, is_accepted })
+}
+
+/// Whether a word is the first of two.
+fn read_choice(word: &[u8], yes: &[u8], no: &[u8]) -> Option<bool> {
+    (word == yes || word == no).then_some(word == yes)
+}
+
+/// `FROM BODY ..`, of the FROM that was asked; the edits end within the limit of txids.
+fn read_edits<'a>(from: u64, words: &mut impl Iterator<Item = &'a [u8]>) -> Option<Edits> {
+    let (first, mut batch) = (read_number(words.next()?)?, Batch::new());
+    if first != from || !words.all(|word| batch.push_word(word)) || batch.count() == 0 {
+        return None;
+    }
+    batch.close(first);
+    batch.last().filter(|&last| last <= LARGEST)?;
+    Some(Edits { first, count: batch.count(), entries: batch.entries().to_vec() })
+}
+
+/// `NUMBER NAME`, which stand for one another, and the field, where there is one.
+fn read_refusal<'a>(words: &mut impl Iterator<Item = &'a [u8]>) -> Option<Refusal> {
+    let number = read_number(words.next()?)?;
+    let reason = *REASONS.iter().find(|reason| **reason as u64 == number)?;
+    let name = words.next()?;
+    let field = if Refusal::has_field(reason) { Some(read_number(words.next()?)?) } else { None };
+    let refusal = Refusal { reason, field };
+    (name == refusal.name().as_bytes()).then_some(refusal)
 }
 
 /// `prepared W C none`, or `prepared W C M KIND E A END`.

@@ -7,9 +7,9 @@ use crate::request::Rule;
 use crate::words::{first_word, has_stray_space, read_number, read_small_number, split_words};
 
 /// Limits of a script. FORMATS.md, "Limits".
-const MOST_ACTORS: usize = 8;
+pub const MOST_ACTORS: usize = 8;
 const LONGEST_LINE: usize = 16384;
-const MOST_NODES: u64 = 15;
+pub const MOST_NODES: u64 = 15;
 
 /// The line of a script that breaks a rule first.
 pub struct BadLine {
@@ -257,7 +257,7 @@ fn cut_edit(text: &[u8]) -> (&[u8], Option<&[u8]>) {
 }
 
 /// NAME: a letter a to z and up to 15 more of a to z and 0 to 9, and not `ops`.
-fn is_name(name: &[u8]) -> bool {
+pub fn is_name(name: &[u8]) -> bool {
     name.len() <= 16
         && name.first().is_some_and(u8::is_ascii_lowercase)
         && name.iter().all(|byte| byte.is_ascii_lowercase() || byte.is_ascii_digit())
@@ -268,7 +268,7 @@ fn number(word: &[u8], least: u64) -> Result<u64, Rule> {
     read_small_number(word).filter(|&number| number >= least).ok_or(7)
 }
 
-fn choice(word: &[u8]) -> Result<Choice, Rule> {
+pub fn choice(word: &[u8]) -> Result<Choice, Rule> {
     match word {
         b"old" => Ok(Choice::Old),
         b"new" => Ok(Choice::New),

@@ -14,10 +14,10 @@ use crate::words::push_number;
 use crate::writer::Net;
 
 /// An image with its digest, at a txid.
-struct Image {
-    txid: u64,
-    bytes: Vec<u8>,
-    digest: [u8; 16],
+pub struct Image {
+    pub txid: u64,
+    pub bytes: Vec<u8>,
+    pub digest: [u8; 16],
 }
 
 /// How a tail ended. A tail up to a txid comes to it, or is purged or behind.
@@ -39,6 +39,18 @@ impl Standby {
     /// An empty namespace at position 0.
     pub fn new() -> Standby {
         Standby { space: Space::new(), position: 0, images: Vec::new() }
+    }
+
+    /// A standby that begins from the newest of these images, the oldest first, or empty at 0.
+    pub fn with_images(images: Vec<Image>) -> Standby {
+        let mut standby = Standby { images, ..Standby::new() };
+        standby.reload();
+        standby
+    }
+
+    /// The image at its position, where there is one.
+    pub fn image(&self) -> Option<&Image> {
+        self.images.iter().find(|image| image.txid == self.position)
     }
 
     /// Begins empty.
@@ -88,7 +100,13 @@ impl Standby {
     }
 
     /// Reads the log by this way to ask a node for the edits from a txid on, until so many nodes say that they have nothing later.
-    pub fn read_log(&mut self, nodes: usize, majority: usize, until: Option<u64>, mut read: impl FnMut(usize, u64) -> Option<Reply>) -> Tailed {
+    pub fn read_log(
+        &mut self,
+        nodes: usize,
+        majority: usize,
+        until: Option<u64>,
+        mut read: impl FnMut(usize, u64) -> Option<Reply>,
+    ) -> Tailed {
         let mut causes = Vec::new();
         while until != Some(self.position) && causes.len() < nodes {
             match read(causes.len(), self.position + 1) {

@@ -1,6 +1,6 @@
 //! A writer: its rounds over the nodes. MODEL.md, "A writer".
 
-use crate::batch::Batch;
+use crate::batch::{Batch, Bodies};
 use crate::caller::{Caller, Cause};
 use crate::cluster::Cluster;
 use crate::edit::{END_SEGMENT, START_SEGMENT};
@@ -29,14 +29,49 @@ struct Open {
     next: u64,
 }
 
+/// The nodes of a writer, as it asks them.
+pub trait Nodes {
+    /// How many there are.
+    fn count(&self) -> usize;
+    /// What is asked next.
+    fn prepare(&mut self, request: &Request);
+    /// What was prepared will be asked of this node too, in the same round.
+    fn send_ahead(&mut self, node: usize, request: &Request);
+    /// Asks a node what was prepared; none where no reply is heard.
+    fn ask(&mut self, node: usize, request: &Request) -> Option<Reply>;
+
+    /// How many nodes are a majority. MODEL.md, "The parts".
+    fn majority(&self) -> usize {
+        self.count() / 2 + 1
+    }
+}
+
 /// What a caller needs to make calls.
 pub struct Net<'a> {
     pub caller: &'a mut Caller,
     pub cluster: &'a mut Cluster,
 }
 
+impl Nodes for Net<'_> {
+    fn count(&self) -> usize {
+        self.cluster.count()
+    }
+
+    fn prepare(&mut self, request: &Request) {
+        self.caller.prepare(self.cluster, request);
+    }
+
+    fn send_ahead(&mut self, node: usize, request: &Request) {
+        self.cluster.send_ahead(node, request);
+    }
+
+    fn ask(&mut self, node: usize, request: &Request) -> Option<Reply> {
+        self.caller.ask(self.cluster, node, request)
+    }
+}
+
 /// The writer of an actor.
-#[derive(Default)]
+#[derive(Clone, Default)]
 pub struct Writer {
     epoch: u64,
     serial: u64,
@@ -73,34 +108,36 @@ impl Writer {
 
     /// One request to each node, in order of number; replies of the Ok kind are handed over. The causes come back, where a majority
     /// answered so; else the writer is stopped until its next takeover.
-    fn round(&mut self, net: &mut Net, request: &Request, mut hear: impl FnMut(usize, Reply)) -> Result<Vec<Cause>, Failure> {
+    fn round(&mut self, net: &mut impl Nodes, request: &Request, mut hear: impl FnMut(usize, Reply)) -> Result<Vec<Cause>, Failure> {
         let skips = matches!(request, Request::Journal(..) | Request::Finalize(..));
-        net.caller.prepare(net.cluster, request);
-        (0..net.cluster.count()).filter(|&node| !(skips && self.left_out[node])).for_each(|node| net.cluster.send_ahead(node, request));
-        let mut causes = Vec::with_capacity(net.cluster.count());
-        for node in 0..net.cluster.count() {
+        let fits = has_fitting_numbers(request);
+        net.prepare(request);
+        (0..net.count()).filter(|&node| !(skips && self.left_out[node])).for_each(|node| net.send_ahead(node, request));
+        let mut causes = Vec::with_capacity(net.count());
+        for node in 0..net.count() {
             if skips && self.left_out[node] {
                 causes.push(Cause::OutOfSync);
                 continue;
             }
-            causes.push(match net.caller.ask(net.cluster, node, request) {
+            causes.push(match net.ask(node, request) {
                 None => Cause::Silent,
                 Some(Reply::Refused(refusal)) => Cause::Refused(refusal),
-                Some(reply) => {
+                Some(reply) if fits && is_of_ok_kind(request, &reply) => {
                     hear(node, reply);
                     Cause::Ok
                 }
+                _ => Cause::Silent,
             });
         }
         if matches!(request, Request::Journal(..) | Request::Start(..)) {
             self.left_out = causes.iter().map(|cause| *cause != Cause::Ok).collect();
         }
-        self.judge(net.cluster, causes)
+        self.judge(net.majority(), causes)
     }
 
     /// Whether a majority answered with Ok.
-    fn judge(&mut self, cluster: &Cluster, causes: Vec<Cause>) -> Result<Vec<Cause>, Failure> {
-        if causes.iter().filter(|cause| **cause == Cause::Ok).count() >= cluster.majority() {
+    fn judge(&mut self, majority: usize, causes: Vec<Cause>) -> Result<Vec<Cause>, Failure> {
+        if causes.iter().filter(|cause| **cause == Cause::Ok).count() >= majority {
             return Ok(causes);
         }
         self.open = None;
@@ -110,9 +147,9 @@ impl Writer {
     // ## A takeover
 
     /// Takes a new epoch, recovers the newest segment and begins the first own one: the epoch and that segment's start.
-    pub fn take_over(&mut self, net: &mut Net) -> Result<(u64, u64), Failure> {
+    pub fn take_over(&mut self, net: &mut impl Nodes) -> Result<(u64, u64), Failure> {
         let last_journaled = self.last_journaled;
-        *self = Writer { left_out: vec![false; net.cluster.count()], last_journaled, ..Writer::default() };
+        *self = Writer { left_out: vec![false; net.count()], last_journaled, ..Writer::default() };
         let first = match self.propose(net)? {
             None => 1,
             Some(start) => self.recover(net, start)?,
@@ -122,7 +159,7 @@ impl Writer {
     }
 
     /// Rounds 1 and 2: the new epoch, and the greatest start told as newest.
-    fn propose(&mut self, net: &mut Net) -> Result<Option<u64>, Failure> {
+    fn propose(&mut self, net: &mut impl Nodes) -> Result<Option<u64>, Failure> {
         let mut told = 0;
         self.round(net, &Request::State, |_, reply| {
             if let Reply::State(promise) = reply {
@@ -143,7 +180,7 @@ impl Writer {
     }
 
     /// Rounds 3 to 5: the segment is prepared, fetched, accepted and finalised. The start of the segment after it comes back.
-    fn recover(&mut self, net: &mut Net, start: u64) -> Result<u64, Failure> {
+    fn recover(&mut self, net: &mut impl Nodes, start: u64) -> Result<u64, Failure> {
         let head = self.next_head();
         let mut answers: Vec<(usize, Option<SegmentState>)> = Vec::new();
         let causes = self.round(net, &Request::Prepare(head, start), |node, reply| {
@@ -168,7 +205,7 @@ impl Writer {
     /// segment.
     fn fetch_best(
         &mut self,
-        net: &mut Net,
+        net: &mut impl Nodes,
         start: u64,
         mut answers: Vec<(usize, Option<SegmentState>)>,
         mut causes: Vec<Cause>,
@@ -183,21 +220,26 @@ impl Writer {
                 Err(cause) => causes[node] = cause,
             }
             answers.retain(|answer| answer.0 != node);
-            causes = self.judge(net.cluster, causes)?;
+            causes = self.judge(net.majority(), causes)?;
         }
     }
 
     /// All edits of a segment from one node, piece by piece.
-    fn fetch(&mut self, net: &mut Net, node: usize, start: u64, end: u64) -> Result<Batch, Cause> {
+    fn fetch(&mut self, net: &mut impl Nodes, node: usize, start: u64, end: u64) -> Result<Batch, Cause> {
         let mut batch = Batch::new();
         let mut from = start;
         while from <= end {
             let request = Request::Fetch(self.next_head(), start, from);
-            net.caller.prepare(net.cluster, &request);
-            match net.caller.ask(net.cluster, node, &request) {
-                Some(Reply::Edits(edits)) => {
+            net.prepare(&request);
+            match net.ask(node, &request) {
+                Some(Reply::Edits(edits)) if edits.count <= end + 1 - from => {
                     batch.push_entries(&edits.entries, edits.count);
                     from += edits.count;
+                }
+                // (edits past the told end are left out)
+                Some(Reply::Edits(edits)) => {
+                    Bodies { entries: &edits.entries }.take((end + 1 - from) as usize).for_each(|body| batch.push(body));
+                    from = end + 1;
                 }
                 Some(Reply::Refused(refusal)) => return Err(Cause::Refused(refusal)),
                 _ => return Err(Cause::Silent),
@@ -208,7 +250,7 @@ impl Writer {
     }
 
     /// Rounds 6 and 7: a segment begins, with its first record.
-    fn begin(&mut self, net: &mut Net, start: u64) -> Result<(), Failure> {
+    fn begin(&mut self, net: &mut impl Nodes, start: u64) -> Result<(), Failure> {
         let head = self.next_head();
         self.round(net, &Request::Start(head, start), |_, _| {})?;
         self.open = Some(Open { start, next: start });
@@ -218,7 +260,7 @@ impl Writer {
     // ## What an active writer does
 
     /// One batch, which gets the next txids.
-    pub fn journal(&mut self, net: &mut Net, batch: &mut Batch) -> Result<(), Failure> {
+    pub fn journal(&mut self, net: &mut impl Nodes, batch: &mut Batch) -> Result<(), Failure> {
         let open = self.open.ok_or(Failure::Inactive)?;
         batch.close(open.next);
         let last = open.next + batch.count() - 1;
@@ -230,7 +272,7 @@ impl Writer {
         Ok(())
     }
 
-    fn journal_one(&mut self, net: &mut Net, record: u8) -> Result<(), Failure> {
+    fn journal_one(&mut self, net: &mut impl Nodes, record: u8) -> Result<(), Failure> {
         let mut batch = Batch::new();
         batch.push(&[record]);
         self.journal(net, &mut batch)
@@ -250,7 +292,7 @@ impl Writer {
     }
 
     /// Logs edits as one batch, unless it passes a limit.
-    pub fn log(&mut self, net: &mut Net, batch: &mut Batch) -> Result<(), Failure> {
+    pub fn log(&mut self, net: &mut impl Nodes, batch: &mut Batch) -> Result<(), Failure> {
         if self.open.is_none() {
             return Err(Failure::Inactive);
         }
@@ -261,7 +303,7 @@ impl Writer {
     }
 
     /// Ends the open segment; its last txid.
-    pub fn close(&mut self, net: &mut Net) -> Result<u64, Failure> {
+    pub fn close(&mut self, net: &mut impl Nodes) -> Result<u64, Failure> {
         let open = self.open.ok_or(Failure::Inactive)?;
         self.journal_one(net, END_SEGMENT)?;
         let last = self.committed;
@@ -272,18 +314,40 @@ impl Writer {
     }
 
     /// Ends the open segment and begins the next one; that one's start.
-    pub fn roll(&mut self, net: &mut Net) -> Result<u64, Failure> {
+    pub fn roll(&mut self, net: &mut impl Nodes) -> Result<u64, Failure> {
         let start = self.close(net)? + 1;
         self.begin(net, start)?;
         Ok(start)
     }
 
     /// Lets the nodes remove segments that end below a txid.
-    pub fn purge(&mut self, net: &mut Net, below: u64) -> Result<(), Failure> {
+    pub fn purge(&mut self, net: &mut impl Nodes, below: u64) -> Result<(), Failure> {
         if self.open.is_none() {
             return Err(Failure::Inactive);
         }
         let head = self.next_head();
         self.round(net, &Request::Purge(head, below), |_, _| {}).map(|_| ())
+    }
+}
+
+/// Whether no number of a request is out of range; else no answer counts. MODEL.md, "A writer".
+fn has_fitting_numbers(request: &Request) -> bool {
+    let head = request.head().map_or([0; 3], |head| [head.epoch, head.serial, head.committed]);
+    let last = request.batch().map_or(0, |batch| batch.last().unwrap_or(u64::MAX));
+    head.into_iter().chain(request.numbers()).chain([last]).all(|number| number <= LARGEST)
+}
+
+/// Whether a reply that answers the request tells no number out of range. MODEL.md, "A writer".
+fn is_of_ok_kind(request: &Request, reply: &Reply) -> bool {
+    match reply {
+        Reply::State(promise) => *promise <= LARGEST,
+        Reply::NewEpoch(start) => start.is_none_or(|start| (1..=LARGEST).contains(&start)),
+        Reply::Prepared { writer, committed, segment } => {
+            let told = |segment: SegmentState| {
+                segment.start == request.numbers()[0] && (segment.start..=LARGEST).contains(&segment.end) && segment.epoch <= LARGEST
+            };
+            *writer <= LARGEST && *committed <= LARGEST && segment.is_none_or(told)
+        }
+        _ => true,
     }
 }
