@@ -226,8 +226,8 @@ pub fn lead(nodes: usize) -> Ending {
         let mut told = play.answer(&line, nodes);
         // (an image is in the folder before its result is written)
         if told.starts_with(b"= checkpoint") {
-            let image = play.first_standby().and_then(Standby::image);
-            if image.is_some_and(|image| images::save(image).is_err()) {
+            let image = play.first_standby().map(Standby::snapshot);
+            if image.is_some_and(|image| images::save(&image).is_err()) {
                 return Ending::DiskFault;
             }
         }

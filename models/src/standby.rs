@@ -48,9 +48,11 @@ impl Standby {
         standby
     }
 
-    /// The image at its position, where there is one.
-    pub fn image(&self) -> Option<&Image> {
-        self.images.iter().find(|image| image.txid == self.position)
+    /// An image of its namespace, at its position.
+    pub fn snapshot(&self) -> Image {
+        let bytes = image::write(&self.space, self.position);
+        let digest = md5::digest(&bytes);
+        Image { txid: self.position, bytes, digest }
     }
 
     /// Begins empty.
@@ -69,10 +71,8 @@ impl Standby {
 
     /// Saves an image at the position, and keeps the two newest.
     pub fn checkpoint(&mut self) {
-        let bytes = image::write(&self.space, self.position);
-        let digest = md5::digest(&bytes);
         self.images.retain(|image| image.txid != self.position);
-        self.images.push(Image { txid: self.position, bytes, digest });
+        self.images.push(self.snapshot());
         self.images.sort_by_key(|image| image.txid);
         let count = self.images.len();
         self.images.drain(..count.saturating_sub(2));
