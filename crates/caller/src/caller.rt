@@ -1,0 +1,218 @@
+//! A caller.
+ghost use Rattle.std.specs.Prelude.{◌≡◌, ◌≤◌, true, IfOk, OnOk, OnErr};
+ghost use Rattle.journal_core.specs.Peers.{FitsHeard};
+ghost use Rattle.mesh.specs.Makers.{heard_of};
+ghost use Rattle.play_calls.specs.Logs.{new_log};
+ghost use Rattle.caller.specs.Callers.{CallGoes, IsTold, IsCalledOver};
+
+use crate::wire::{CopyWire, Wire};
+use journal_core::{Bytes, Heard, OutOfMemory, Peers, SharedRequest};
+use journal_history::Told;
+use play_calls::{CallerLog, Delivery, Seats, heard_of};
+use std::alloc::Global;
+use std::marker::Model;
+
+/// A caller of the nodes that a wire leads to: what it lists of its calls, each of which is lost as
+/// its marks say. Contracts see the wire and the list.
+#[derive(Drop)]
+pub struct Caller<W: Wire> {
+    wire: W,
+    log: CallerLog,
+}
+
+impl<W: Wire> Model for Caller<W> {
+    ghost use Rattle.std.specs.Prelude.{◌≡◌};
+    ghost use Rattle.caller.specs.Callers.{CallerView};
+
+    ghost Value = { CallerView W };
+
+    ghost view = { λ c. record { wire = c.wire; log = c.log } };
+
+    ghost invariant = { λ c. c.log.nodes ≡ W.nodes c.wire };
+}
+
+/// The call goes over the wire, where it is delivered; what its caller is told. What is heard of
+/// that fits the request.
+#[tactic(auto, using(crate::proofs::CallLaws::tells))]
+fn deliver<W: Wire>(
+    alloc: Global,
+    wire: &mut W,
+    delivery: Delivery,
+    node: usize,
+    request: &SharedRequest,
+) -> Result<Told, OutOfMemory>
+    requires low { 1 ≤ node }
+    requires high { node ≤ W.nodes wire.old }
+    ensures told { IfOk result (λ told. IsTold delivery told) }
+    ensures fits { IfOk result (λ told. FitsHeard request.now (heard_of told)) }
+    ensures goes { IfOk result (λ told. CallGoes W.WireModel node request.now told wire.old wire.new) }
+    ensures nodes { W.nodes wire.new ≡ W.nodes wire.old }
+{
+    match delivery {
+        Delivery::NotDelivered => {
+            wire.skip(node)?;
+            Ok(Told::Dropped)
+        }
+        Delivery::ReplyLost => {
+            let _ = wire.carry(alloc, node, request)?;
+            Ok(Told::Muted)
+        }
+        Delivery::Delivered => match wire.carry(alloc, node, request)? {
+            Heard::Answer(reply) => Ok(Told::Reply(reply)),
+            Heard::Silent => Ok(Told::Silent),
+        },
+    }
+}
+
+/// A call over the wire, listed with what it was told.
+fn call_over<W: Wire>(
+    alloc: Global,
+    wire: &mut W,
+    log: &mut CallerLog,
+    node: usize,
+    request: SharedRequest,
+) -> Result<Heard, OutOfMemory>
+    requires low { 1 ≤ node }
+    requires high { node ≤ log.old.nodes }
+    requires there { log.old.nodes ≡ W.nodes wire.old }
+    ensures called { IfOk result (λ heard. IsCalledOver W.WireModel node request heard log.old wire.old log.new wire.new) }
+    ensures fits { IfOk result (λ heard. FitsHeard request heard) }
+    ensures unlisted { OnErr result (log.new.past ≡ log.old.past) }
+    ensures nodes { log.new.nodes ≡ log.old.nodes }
+    ensures there { log.new.nodes ≡ W.nodes wire.new }
+{
+    let delivery = log.delivery(node)?;
+    let told = deliver(alloc, wire, delivery, node, &request)?;
+    let heard = heard_of(alloc, &told)?;
+    log.call(node, request, told)?;
+    Ok(heard)
+}
+
+/// Those of the nodes that a round asks whose next calls are delivered.
+fn reached_of(alloc: Global, log: &CallerLog, asked: &[usize]) -> Result<Vec<usize>, OutOfMemory> {
+    let mut nodes = Vec::new(alloc);
+    for node in asked {
+        let node = *node;
+        if 1 <= node
+            && node <= log.nodes()
+            && log.delivery(node)? != Delivery::NotDelivered
+        {
+            nodes.push(node)?;
+        }
+    }
+    Ok(nodes)
+}
+
+impl<W: Wire> Caller<W> {
+    /// A caller over this wire that listed and marked this.
+    pub fn of(wire: W, log: CallerLog) -> Caller<W>
+        requires { log.nodes ≡ W.nodes wire }
+        ensures { result ≡ record { wire = wire; log = log } }
+    {
+        Caller { wire, log }
+    }
+
+    /// Whether memory sufficed so far: then the record goes by the marks.
+    pub fn is_whole(&self) -> bool
+        ensures { result ≡ self.now.log.whole }
+    {
+        self.log.is_whole()
+    }
+
+    /// The wire, and what was listed and marked.
+    pub fn into_parts(self) -> (W, CallerLog)
+        ensures wire { result.0 ≡ self.wire }
+        ensures log { result.1 ≡ self.log }
+        ensures nodes { result.1.nodes ≡ W.nodes result.0 }
+    {
+        let Caller { wire, log } = self;
+        (wire, log)
+    }
+}
+
+impl<W: Wire> Peers for Caller<W> {
+    ghost use Rattle.play_calls.specs.Logs.{calls_in};
+    ghost use Rattle.caller.specs.LaterLaws.{AreCalled, called_none, called_on};
+
+    ghost calls = { λ c. calls_in c.log.past };
+
+    ghost nodes = { λ c. c.log.nodes };
+
+    ghost called = { λ old new. AreCalled W.WireModel old new };
+
+    fn nodes(&self) -> usize {
+        self.log.nodes()
+    }
+
+    fn call(
+        &mut self,
+        alloc: Global,
+        node: usize,
+        request: SharedRequest,
+    ) -> Result<Heard, OutOfMemory> {
+        call_over(alloc, &mut self.wire, &mut self.log, node, request)
+    }
+
+    fn has_ahead(&self) -> bool {
+        self.wire.has_ahead()
+    }
+
+    fn announce(
+        &mut self,
+        alloc: Global,
+        asked: &[usize],
+        request: &SharedRequest,
+    ) -> Result<(), OutOfMemory> {
+        let reached = reached_of(alloc, &self.log, asked)?;
+        self.wire.ready(alloc, &reached, request)
+    }
+
+    ghost called_none = { λ c. called_none W.WireModel W.readies_none c };
+
+    ghost called_on = { λ r s t a b. called_on W.WireModel W.readies_on r s t a b };
+}
+
+impl<W: CopyWire> Seats for Caller<W> {
+    ghost use Rattle.std.specs.Prelude.{refl};
+    ghost use Rattle.caller.specs.Callers.{AreLater};
+    ghost use Rattle.caller.specs.LaterLaws.{later_same, later_on};
+
+    ghost log = { λ c. c.log };
+
+    ghost later = { λ old new. AreLater W.WireModel old new };
+
+    fn mark(&mut self, node: usize, next: u64, mute: bool) -> Result<(), OutOfMemory> {
+        if mute {
+            self.log.mute_next(node, next)
+        } else {
+            self.log.drop_next(node, next)
+        }
+    }
+
+    fn late(&mut self, alloc: Global, node: usize, number: u64) -> Result<bool, OutOfMemory> {
+        let Some(request) = self.log.earlier(node, number)? else {
+            return Ok(false);
+        };
+        self.wire.copy(alloc, node, &request)?;
+        self.log.copy(node, number, request)?;
+        Ok(true)
+    }
+
+    fn say(&mut self, text: Bytes) -> Result<(), OutOfMemory> {
+        self.log.say(text)
+    }
+
+    ghost later_same = { λ c. later_same W.WireModel W.readies_none c };
+
+    ghost later_on = { λ r s t a b. later_on W.WireModel W.readies_on r s t a b };
+
+    ghost later_nodes = { λ r s h. h.nodes };
+
+    ghost calls_are = { λ c. refl };
+
+    ghost nodes_are = { λ c. refl };
+
+    ghost called_lists = { λ r s h. h.1 };
+
+    ghost called_later = { λ r s h. h.0 };
+}
