@@ -1,8 +1,8 @@
 //! A caller.
-ghost use Rattle.std.specs.Prelude.{◌≡◌, ◌≤◌, true, IfOk, OnOk, OnErr};
+ghost use Rattle.std.specs.Prelude.{◌≡◌, ◌≤◌, [], true, IfOk, OnErr};
 ghost use Rattle.journal_core.specs.Peers.{FitsHeard};
 ghost use Rattle.mesh.specs.Makers.{heard_of};
-ghost use Rattle.play_calls.specs.Logs.{new_log};
+ghost use Rattle.mesh.specs.Marks.{IsMarked};
 ghost use Rattle.caller.specs.Callers.{CallGoes, IsTold, IsCalledOver};
 
 use crate::wire::{CopyWire, Wire};
@@ -93,10 +93,7 @@ fn reached_of(alloc: Global, log: &CallerLog, asked: &[usize]) -> Result<Vec<usi
     let mut nodes = Vec::new(alloc);
     for node in asked {
         let node = *node;
-        if 1 <= node
-            && node <= log.nodes()
-            && log.delivery(node)? != Delivery::NotDelivered
-        {
+        if 1 <= node && node <= log.nodes() && log.delivery(node)? != Delivery::NotDelivered {
             nodes.push(node)?;
         }
     }
@@ -114,7 +111,8 @@ impl<W: Wire> Caller<W> {
 
     /// Whether memory sufficed so far: then the record goes by the marks.
     pub fn is_whole(&self) -> bool
-        ensures { result ≡ self.now.log.whole }
+        ensures whole { result ≡ self.now.log.whole }
+        ensures marked { self.now.log.whole ≡ true → IsMarked self.now.log.marks [] self.now.log.past }
     {
         self.log.is_whole()
     }

@@ -14,6 +14,7 @@ pub mod KeptLists
 pub mod KeptTurns
 pub mod KeptLines
 pub mod LineTaken
+pub mod NodesGo
 pub mod SeatsGo
 pub mod ClusterLaws
 pub mod PlayLaws

@@ -35,54 +35,6 @@ use Rattle.play_model.proofs.Sound.{handed_past, led_past}
 abbrev pub view : ℕ → List CellView → LogView → SeatsView
 view caller cells log = record { caller = caller; cells = cells; log = log }
 
-pub within : (s : SeatsView) (caller : ℕ) (cells : List CellView) (log : LogView) (node : ℕ) → view caller cells log ≡ s → log.nodes ≡ length cells → node ≤ s.log.nodes → node ≤ length cells
-within s caller cells log node e n l = let h : node ≤ log.nodes = subst (λ (x : SeatsView). node ≤ x.log.nodes) (sym e) l in omega (arith, h, n)
-
--- ## A call
-pub told_as_marked : (marks : List Mark) (node n : ℕ) (d : Delivery) (told : Told) (v : CellView) (r : Request) → d ≡ delivery marks node n → told ≡ told_by d v r → IsAsMarked marks node n told
-told_as_marked marks node n d told v r goes is =
-    subst (λ (t : Told). IsAsMarked marks node n t) (sym (is ∙ ap (λ e. told_by e v r) goes)) (delivery_marked marks node n (answer_to v (Act false r)))
-
-pub is_called : (s : SeatsView) (caller : ℕ) (cells : List CellView) (log new : LogView) (node : ℕ) (r : Request) (told : Told) (heard : Heard) → view caller cells log ≡ s → heard ≡ heard_of told
-    → IsAsMarked log.marks node (next_number node log.past) told → new ≡ with_line log (Call node r told) → IsCalled s.log node r heard new
-is_called s caller cells log new node r told heard e hears marked listed_is =
-    subst (λ (x : SeatsView). IsCalled x.log node r heard new) e (record { told = told; hears = hears; as_marked = marked; listed = listed_is })
-
-here : (cells : List CellView) (node : ℕ) (v : CellView) → 1 ≤ node → node ≤ length cells → v ≡ get_or cells (node - 1) v → cell_at cells node ≡ v
-here cells node v low high is = get_or_default cells (node - 1) new_cell v (omega (arith, low, high)) ∙ sym is
-
-pub call_later : (s : SeatsView) (caller : ℕ) (cells : List CellView) (log new : LogView) (node : ℕ) (r : Request) (told : Told) (d : Delivery) (v w : CellView) → view caller cells log ≡ s
-    → 1 ≤ node → node ≤ length cells → v ≡ get_or cells (node - 1) v → told ≡ told_by d v r → w ≡ reached_by d v caller r → new ≡ with_line log (Call node r told)
-    → AreLater s (view caller (set cells (node - 1) w) new)
-call_later s caller cells log new node r told d v w e low high is told_is cell listed_is =
-    let h : cell_at cells node ≡ v = here cells node v low high is in
-    subst (λ (x : SeatsView). AreLater x (view caller (set cells (node - 1) w) new)) e
-    (later_one (view caller cells log) (view caller (set cells (node - 1) w) new) (Call node r told) refl (ap (λ (l : LogView). l.nodes) listed_is) (ap (λ (l : LogView). l.past) listed_is) (record {
-      delivery = d;
-      low = low;
-      high = high;
-      told_is = told_is ∙ ap (λ z. told_by d z r) (sym h);
-      cells = ap (λ z. set cells (node - 1) z) (cell ∙ ap (λ z. reached_by d z caller r) (sym h));
-    }))
-
-pub copy_later : (s : SeatsView) (caller : ℕ) (cells : List CellView) (log new : LogView) (node number : ℕ) (r : Request) (v w : CellView) → view caller cells log ≡ s
-    → 1 ≤ node → node ≤ length cells → v ≡ get_or cells (node - 1) v → w ≡ list_ask v caller (Act true r) → new ≡ copy_call log node number r
-    → AreLater s (view caller (set cells (node - 1) w) new)
-copy_later s caller cells log new node number r v w e low high is cell copied =
-    let h : cell_at cells node ≡ v = here cells node v low high is in
-    subst (λ (x : SeatsView). AreLater x (view caller (set cells (node - 1) w) new)) e
-    (later_one (view caller cells log) (view caller (set cells (node - 1) w) new) (Late node r) refl (ap (λ (l : LogView). l.nodes) copied) (ap (λ (l : LogView). l.past) copied) (record {
-      low = low;
-      high = high;
-      cells = ap (λ z. set cells (node - 1) z) (cell ∙ ap (λ z. list_ask z caller (Act true r)) (sym h));
-    }))
-
-pub say_later : (s : SeatsView) (caller : ℕ) (cells : List CellView) (log new : LogView) (text : List ℕ) → view caller cells log ≡ s → new ≡ with_line log (Outcome text)
-    → AreLater s (view caller cells new)
-say_later s caller cells log new text e said =
-    subst (λ (x : SeatsView). AreLater x (view caller cells new)) e
-    (later_one (view caller cells log) (view caller cells new) (Outcome text) refl (ap (λ (l : LogView). l.nodes) said) (ap (λ (l : LogView). l.past) said) refl)
-
 -- ## An action
 module _ {A : Type 0} (seen : A → ActorView) where
   players_there : (named : Bool) (cells : List CellView) (players : List (Player A)) (o : ℕ) (os : List Record) (k : Kept) (c : ℕ)

@@ -9,6 +9,7 @@ pub mod Kinds
 pub mod Kept
 pub mod Shown
 pub mod PlaySeats
+pub mod NodesWire
 pub mod SeatLaws
 pub mod Ready
 pub mod Goal

@@ -11,10 +11,11 @@ ghost use Rattle.play_model.specs.Lines.{Acts, Action, line_of};
 ghost use Rattle.play_actor.specs.Ready.{IsIdle, TakesLine};
 ghost use Rattle.play_actor.specs.Shown.{keeps};
 
-use crate::play_seats::PlaySeats;
+use crate::nodes_wire::NodesWire;
 use crate::played_on::PlayedOn;
 use crate::player::Player;
 use base_disk::MemDisk;
+use caller::Caller;
 use journal_core::{Bytes, CutNode, Name, OutOfMemory};
 use journal_history::{NodeAsk, NodeCell, Plan, Record, RecordList, cells_of};
 use mesh::{HistoryTable, Mesh, RecordTable};
@@ -178,20 +179,17 @@ impl<A: Actor, N: CutNode + Drop> Cluster<A, N> {
         } = self;
         let player = &mut players[actor as usize];
         let log = mem::replace(&mut player.log, CallerLog::new(alloc, 0)?);
-        let mut seats = PlaySeats {
+        let wire = NodesWire {
             cells,
-            log,
             caller: actor,
         };
+        let mut seats = Caller::of(wire, log);
         player.actor.take_line(alloc, &mut seats, line)?;
-        if !seats.log.is_whole() {
+        if !seats.is_whole() {
             return Err(AllocError);
         }
-        let PlaySeats {
-            cells,
-            log,
-            caller: _,
-        } = seats;
+        let (wire, log) = seats.into_parts();
+        let NodesWire { cells, caller: _ } = wire;
         player.log = log;
         Ok(Cluster {
             named,

@@ -6,7 +6,7 @@ mod actions;
 mod cluster;
 mod name_node;
 mod named_lines;
-mod play_seats;
+mod nodes_wire;
 mod played_on;
 mod player;
 mod playing;
