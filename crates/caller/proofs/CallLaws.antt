@@ -1,6 +1,6 @@
 -- A call over a wire, and the caller one line later.
 use Rattle.std.proofs.Common.{◌≡◌, ℕ, ◌≤◌, List, [], ◌∷◌, ◌++◌, refl, sym, ap, subst, ◌∙◌}
-use Rattle.std.specs.Prelude.{Result, Ok, Err, IfOk, OnOk, OnErr}
+use Rattle.std.specs.Prelude.{Bool, Result, Ok, Err, IfOk, OnOk, OnErr}
 use Rattle.std.specs.declared.alloc.AllocError.{AllocError}
 use Rattle.journal_core.specs.declared.request.Request.{Request}
 use Rattle.journal_core.specs.declared.reply.Reply.{Reply}
@@ -8,9 +8,10 @@ use Rattle.journal_core.specs.declared.heard.Heard.{Heard}
 use Rattle.journal_core.specs.Peers.{Lists}
 use Rattle.journal_history.specs.declared.mark.Mark.{Mark}
 use Rattle.journal_history.specs.declared.mark.MarkKind.{MarkKind}
+use Rattle.journal_history.specs.declared.node_ask.NodeAsk.{NodeAsk}
 use Rattle.journal_history.specs.declared.node_ask.NodeAnswer.TheVariants.{Replied, Stopped, Done}
 use Rattle.journal_history.specs.declared.record.Record.{Record}
-use Rattle.journal_history.specs.declared.record.Record.TheVariants.{Call, Late, Outcome}
+use Rattle.journal_history.specs.declared.record.Record.TheVariants.{Call, Late, Operator, Outcome}
 use Rattle.journal_history.specs.declared.record.Told.{Told}
 use Rattle.journal_history.specs.declared.record.Told.TheVariants as told
 use Rattle.mesh.specs.Marks.{IsAsMarked}
@@ -102,6 +103,13 @@ module _ {W : Type 0} (w : Ghosts W) where
       subst (λ (x : CallerView W). AreLater w x (record { wire = wire; log = new })) e
       (later_one w none (record { wire = wire; log = old }) (record { wire = wire; log = new }) (Outcome text) (ap (λ (l : LogView). l.nodes) m) (ap (λ (l : LogView). l.past) m) refl)
   said_later none (Err x) s old wire new text e m = tt
+
+  pub operated_over : ReadiesNone w → (s : CallerView W) (old : LogView) (before : W) (new : LogView) (after : W) (node : ℕ) (ask : NodeAsk) (done : Bool)
+      → record { wire = before; log = old } ≡ s → 1 ≤ node → node ≤ w.nodes before → w.operates node ask done before after → new ≡ with_line old (Operator node ask done)
+      → AreLater w s (record { wire = after; log = new })
+  operated_over none s old before new after node ask done e low high went listed =
+      subst (λ (x : CallerView W). AreLater w x (record { wire = after; log = new })) e
+      (later_one w none (record { wire = before; log = old }) (record { wire = after; log = new }) (Operator node ask done) (ap (λ (l : LogView). l.nodes) listed) (ap (λ (l : LogView). l.past) listed) (low, high, went))
 
   pub ready_over : {A E : Type 0} → (res : Result A E) (s : CallerView W) (log : LogView) (before after : W)
       → record { wire = before; log = log } ≡ s → OnOk res (w.readies before after) → OnOk res (AreCalled w s (record { wire = after; log = log }))

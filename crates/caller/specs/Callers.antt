@@ -36,7 +36,7 @@ CallGoes w node r told.Silent old new = w.carries node r Silent old new
 abbrev pub LineGoes : {W : Type 0} → Ghosts W → Record → W → W → Type 0
 LineGoes w (Call node r t) old new = (1 ≤ node) × (node ≤ w.nodes old) × CallGoes w node r t old new
 LineGoes w (Late node r) old new = (1 ≤ node) × (node ≤ w.nodes old) × w.copies node r old new
-LineGoes w (Operator node ask done) old new = ⊥
+LineGoes w (Operator node ask done) old new = (1 ≤ node) × (node ≤ w.nodes old) × w.operates node ask done old new
 LineGoes w (Outcome text) old new = new ≡ old
 
 -- One line: requests may be sent ahead, then the line went, and the rest came after.

@@ -1,13 +1,15 @@
 //! A caller.
-ghost use Rattle.std.specs.Prelude.{◌≡◌, ◌≤◌, [], true, IfOk, OnErr};
+ghost use Rattle.std.specs.Prelude.{◌≡◌, ◌≤◌, [], true, IfOk, OnOk, OnErr};
 ghost use Rattle.journal_core.specs.Peers.{FitsHeard};
-ghost use Rattle.mesh.specs.Makers.{heard_of};
+ghost use Rattle.journal_history.specs.declared.record.Record.TheVariants.{Operator};
+ghost use Rattle.mesh.specs.Makers.{heard_of, IsOperation};
 ghost use Rattle.mesh.specs.Marks.{IsMarked};
-ghost use Rattle.caller.specs.Callers.{CallGoes, IsTold, IsCalledOver};
+ghost use Rattle.play_calls.specs.Logs.{new_log, with_line};
+ghost use Rattle.caller.specs.Callers.{CallGoes, IsTold, IsCalledOver, AreLater};
 
-use crate::wire::{CopyWire, Wire};
+use crate::wire::{CopyWire, OperatedWire, Wire};
 use journal_core::{Bytes, Heard, OutOfMemory, Peers, SharedRequest};
-use journal_history::Told;
+use journal_history::{NodeAsk, Told};
 use play_calls::{CallerLog, Delivery, Seats, heard_of};
 use std::alloc::Global;
 use std::marker::Model;
@@ -125,6 +127,31 @@ impl<W: Wire> Caller<W> {
     {
         let Caller { wire, log } = self;
         (wire, log)
+    }
+}
+
+impl<W: Wire + Drop> Caller<W> {
+    /// A caller over this wire who made no call.
+    pub fn new(alloc: Global, wire: W) -> Result<Caller<W>, OutOfMemory>
+        ensures { IfOk result (λ c. c ≡ record { wire = wire; log = new_log (W.nodes wire) true }) }
+    {
+        let log = CallerLog::new(alloc, wire.count())?;
+        Ok(Caller { wire, log })
+    }
+}
+
+impl<W: OperatedWire> Caller<W> {
+    /// What the operator does to a node, listed; whether it took place.
+    pub fn operate(&mut self, node: usize, asked: NodeAsk) -> Result<bool, OutOfMemory>
+        requires low { 1 ≤ node }
+        requires high { node ≤ self.old.log.nodes }
+        requires operation { IsOperation asked }
+        ensures ok { IfOk result (λ done. self.new.log ≡ with_line self.old.log (Operator node asked done)) }
+        ensures later { OnOk result (AreLater W.WireModel self.old self.new) }
+    {
+        let done = self.wire.operate(node, &asked)?;
+        self.log.operate(node, asked, done)?;
+        Ok(done)
     }
 }
 

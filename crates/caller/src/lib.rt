@@ -6,4 +6,4 @@ mod caller;
 mod wire;
 
 pub use caller::Caller;
-pub use wire::{CopyWire, Wire, WireModel};
+pub use wire::{CopyWire, OperatedWire, Wire, WireModel};

@@ -1,10 +1,13 @@
 //! What leads to the nodes of a journal.
-ghost use Rattle.std.specs.Prelude.{◌≡◌, ◌≤◌, ℕ, IfOk, OnOk};
+ghost use Rattle.std.specs.Prelude.{◌≡◌, ◌≤◌, ℕ, Bool, IfOk, OnOk};
 ghost use Rattle.journal_core.specs.declared.request.Request.{Request};
 ghost use Rattle.journal_core.specs.declared.heard.Heard.{Heard as AnyHeard};
 ghost use Rattle.journal_core.specs.Peers.{FitsHeard};
+ghost use Rattle.journal_history.specs.declared.node_ask.NodeAsk.{NodeAsk as AnyAsk};
+ghost use Rattle.mesh.specs.Makers.{IsOperation};
 
 use journal_core::{Heard, OutOfMemory, SharedRequest};
+use journal_history::NodeAsk;
 use std::alloc::Global;
 
 /// What proofs know of a wire.
@@ -20,6 +23,9 @@ pub trait WireModel {
 
     // A late copy reached this node.
     ghost copies: { ℕ → Request → Self → Self → Type 0 };
+
+    // The operator did this to the node, and whether it took place.
+    ghost operates: { ℕ → AnyAsk → Bool → Self → Self → Type 0 };
 
     // Requests may have been sent ahead, of which nothing was heard yet.
     ghost readies: { Self → Self → Type 0 };
@@ -85,5 +91,16 @@ pub trait CopyWire: Wire {
         requires low { 1 ≤ node }
         requires high { node ≤ Self.nodes self.old }
         ensures copied { OnOk result (Self.copies node request.now self.old self.new) }
+        ensures nodes { Self.nodes self.new ≡ Self.nodes self.old };
+}
+
+/// A wire of a simulation through which an operator kills, restarts and arms nodes.
+pub trait OperatedWire: CopyWire {
+    /// What the operator does to a node; whether it took place.
+    fn operate(&mut self, node: usize, asked: &NodeAsk) -> Result<bool, OutOfMemory>
+        requires low { 1 ≤ node }
+        requires high { node ≤ Self.nodes self.old }
+        requires operation { IsOperation asked.now }
+        ensures operated { IfOk result (λ done. Self.operates node asked.now done self.old self.new) }
         ensures nodes { Self.nodes self.new ≡ Self.nodes self.old };
 }

@@ -1,12 +1,13 @@
 -- What the lines of a caller over the wire of a play did to its nodes.
 use Rattle.std.proofs.Common.{◌≡◌, ℕ, ◌-◌, ◌≤◌, List, [], ◌∷◌, ◌++◌, refl, sym, ap, subst, ◌∙◌, arith, length, set, get_or}
-use Rattle.std.specs.Prelude.{true, false}
+use Rattle.std.specs.Prelude.{Bool, true, false}
 use Rattle.std.proofs.lemmas.List.{set-get_or}
 use Rattle.journal_core.specs.declared.request.Request.{Request}
 use Rattle.journal_core.specs.declared.heard.Heard.{Heard}
 use Rattle.journal_core.specs.declared.heard.Heard.TheVariants.{Answer, Silent}
 use Rattle.journal_core.specs.declared.reply.Reply.{Reply}
 use Rattle.journal_history.specs.Cell.{heard_of}
+use Rattle.journal_history.specs.declared.node_ask.NodeAsk.{NodeAsk}
 use Rattle.journal_history.specs.declared.node_ask.NodeAsk.TheVariants.{Act}
 use Rattle.journal_history.specs.declared.record.Record.{Record}
 use Rattle.journal_history.specs.declared.record.Record.TheVariants.{Call, Late, Operator, Outcome}
@@ -32,6 +33,7 @@ module _ (w : Ghosts NodesView) (nodes : (v : NodesView) → w.nodes v ≡ lengt
     (carries : (node : ℕ) (r : Request) (h : Heard) (old new : NodesView) → w.carries node r h old new → Carries node r h old new)
     (skips : (node : ℕ) (old new : NodesView) → w.skips node old new → new ≡ old)
     (copies : (node : ℕ) (r : Request) (old new : NodesView) → w.copies node r old new → Copies node r old new)
+    (operates : (node : ℕ) (ask : NodeAsk) (done : Bool) (old new : NodesView) → w.operates node ask done old new → ⊥)
     (readies : (old new : NodesView) → w.readies old new → new ≡ old) where
   call_went : (node : ℕ) (r : Request) (t : Told) (old new : NodesView) → 1 ≤ node → node ≤ length old.cells → CallGoes w node r t old new
       → (new.caller ≡ old.caller) × Reaches old.caller node r t old.cells new.cells
@@ -54,7 +56,7 @@ module _ (w : Ghosts NodesView) (nodes : (v : NodesView) → w.nodes v ≡ lengt
   line_went (Late node r) old new g =
       let h = copies node r old new g.2 in
       (h.caller, record { low = g.0; high = subst (λ n. node ≤ n) (nodes old) g.1; cells = h.cells })
-  line_went (Operator node ask done) old new g = absurd g
+  line_went (Operator node ask done) old new g = absurd (operates node ask done old new g.2)
   line_went (Outcome text) old new g = (ap (λ (v : NodesView). v.caller) g, ap (λ (v : NodesView). v.cells) g)
 
   lines_went : (lines : List Record) (old new : NodesView) → LinesGo w lines old new → (new.caller ≡ old.caller) × GoAt old.caller lines old.cells new.cells

@@ -58,6 +58,8 @@ impl<N: CutNode + Drop> WireModel for NodesWire<N> {
 
     ghost copies = { λ node r old new. Copies node r old new };
 
+    ghost operates = { λ node ask done old new. ⊥ };
+
     ghost readies = { λ old new. new ≡ old };
 }
 

@@ -6,7 +6,8 @@ pub mod NodeLaws
 pub mod SeatLaws
 pub mod GateLaws
 pub mod CloseLaws
-pub mod CallLaws
+pub mod GateCalls
+pub mod GatesGo
 pub mod ActorLaws
 pub mod OperatorLaws
 pub mod EndLaws

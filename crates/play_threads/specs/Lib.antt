@@ -1,7 +1,7 @@
 pub mod Board
 pub mod Entries
 pub mod Seated
-pub mod LaterLaws
+pub mod GateWires
 pub mod Gates
 pub mod Threads
 pub mod Gathered

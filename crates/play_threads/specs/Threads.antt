@@ -3,6 +3,7 @@ use Rattle.std.specs.Prelude.{◌≡◌, ℕ, ◌==◌, Bool, true, false, List,
 use Rattle.journal_history.specs.declared.record.Record.{Record}
 use Rattle.journal_history.specs.declared.record.Record.TheVariants.{Operator}
 use Rattle.journal_history.specs.declared.mark.Mark.{Mark}
+use Rattle.journal_history.specs.declared.node_ask.NodeAsk.{NodeAsk}
 use Rattle.ns_tree.specs.declared.end.End.{End}
 use Rattle.ns_tree.specs.declared.end.LastSpace.{LastSpace}
 use Rattle.mesh.specs.Makers.{IsOperation, IsOperators}
@@ -34,6 +35,13 @@ abbrev pub OperatesOn : Line → List Record → List Record → Type 0
 OperatesOn (Declares name) old new = new ≡ old
 OperatesOn (Acts actor action) old new = new ≡ old
 OperatesOn (Operates node ask) old new = IsOperation ask × ((done : Bool) × (new ≡ old ++ Operator node ask done ∷ []))
+
+-- what the line asks of a node, and of which; nothing if it isn't the operator's
+abbrev pub Asks : Option (ℕ × NodeAsk) → Line → Type 0
+Asks None (Declares name) = Unit {0}
+Asks None (Acts actor action) = Unit {0}
+Asks None (Operates node ask) = ⊥
+Asks (Some o) line = (line ≡ Operates o.0 o.1) × IsOperation o.1
 
 -- these lines' operations were done, from the beginning on
 pub record HasOperated (lines : List Line) (past : List Record) : Type 0 where

@@ -2,18 +2,20 @@
 ghost use Rattle.std.specs.List.{All};
 ghost use Rattle.std.specs.Prelude.{◌≡◌, ◌≤◌, ◌==◌, map, length, true, IfOk, OnOk};
 ghost use Rattle.play_calls.specs.Logs.{new_log};
-ghost use Rattle.play_threads.specs.Seated.{seat_of, AreSeated, AreLater};
+ghost use Rattle.caller.specs.Callers.{AreLater};
+ghost use Rattle.play_threads.specs.Seated.{seat_of, AreSeated};
 ghost use Rattle.play_model.specs.Lines.{line_of};
 ghost use Rattle.play_model.specs.Actions.{MayCome};
 ghost use Rattle.play_threads.specs.Threads.{DoesLines};
 ghost use Rattle.play_threads.specs.Gathered.{CallerLeaves};
 
 use crate::actors::Actors;
-use crate::at_gates::GateSeats;
 use crate::gate::{Gate, GateSeat};
+use crate::gate_wire::GateWire;
 use crate::gated_node::NodeGate;
 use crate::operator_lines::operate_alone;
 use crate::pass::Pass;
+use caller::{Caller, OperatedWire};
 use journal_core::OutOfMemory;
 use journal_history::{ActorPlan, RecordList};
 use ns_tree::LastSpace;
@@ -33,25 +35,25 @@ pub fn is_operator(caller: u32, operator: u32) -> bool
 }
 
 /// The lines of one caller: the operator's, or an actor's.
-fn do_lines<K: Actors, R: Wait, C: NodeGate, G: Pass>(
+fn do_lines<K: Actors, W: OperatedWire>(
     alloc: Global,
     named: bool,
     lines: &[ScriptLine],
     operator: u32,
     caller: u32,
-    seats: &mut GateSeats<'_, R, C, G>,
+    by: &mut Caller<W>,
 ) -> Result<Option<LastSpace>, OutOfMemory>
-    requires some { 1 ≤ seats.old.log.nodes }
-    requires log { seats.old.log ≡ new_log seats.old.log.nodes true }
-    requires may { All (MayCome named seats.old.log.nodes) lines.now }
-    ensures does { IfOk result (λ last. DoesLines named (caller == operator) seats.old.log.nodes caller (map line_of lines.now) seats.new.log last) }
-    ensures later { OnOk result (AreLater seats.old seats.new) }
+    requires some { 1 ≤ by.old.log.nodes }
+    requires log { by.old.log ≡ new_log by.old.log.nodes true }
+    requires may { All (MayCome named by.old.log.nodes) lines.now }
+    ensures does { IfOk result (λ last. DoesLines named (caller == operator) by.old.log.nodes caller (map line_of lines.now) by.new.log last) }
+    ensures later { OnOk result (AreLater W.WireModel by.old by.new) }
 {
     if is_operator(caller, operator) {
-        operate_alone(alloc, named, lines, seats)?;
+        operate_alone(alloc, named, lines, by)?;
         Ok(None)
     } else {
-        K::act(alloc, named, lines, caller, seats)
+        K::act(alloc, named, lines, caller, by)
     }
 }
 
@@ -73,11 +75,14 @@ pub fn take_lines<K: Actors, R: Wait, C: NodeGate, G: Pass>(
     requires may { All (MayCome named (length seats.items)) lines.now }
     ensures { IfOk result (λ left. CallerLeaves named (length seats.items) operator caller (map line_of lines.now) (map (λ g. g.table.shared.table_id) gates.now) (map (λ t. seat_of t.seat.table_id t.caller t.seat.me.0.seen) left.0.items) left.1 left.2 left.3) }
 {
-    let mut seats = GateSeats::new(alloc, rt, gates, seats, caller, pass)?;
-    let last = do_lines::<K, _, _, _>(alloc, named, lines, operator, caller, &mut seats)?;
-    if !seats.is_whole() {
+    let wire = GateWire::new(rt, gates, seats, caller, pass);
+    let mut by = Caller::new(alloc, wire)?;
+    let last = do_lines::<K, _>(alloc, named, lines, operator, caller, &mut by)?;
+    if !by.is_whole() {
         return Err(AllocError);
     }
-    let (seats, past, marks) = seats.into_parts();
+    let (wire, log) = by.into_parts();
+    let seats = wire.into_seats();
+    let (past, marks) = log.into_parts();
     Ok((seats, past, marks, last))
 }

@@ -1,81 +1,93 @@
 //! The operator over its seats: all of its lines, in order.
 ghost use Rattle.std.specs.List.{All};
-ghost use Rattle.std.specs.Prelude.{◌≡◌, map, true, OnOk};
+ghost use Rattle.std.specs.Prelude.{◌≡◌, ◌≤◌, map, true, IfOk, IfSome, OnOk};
 ghost use Rattle.play_calls.specs.Logs.{new_log};
-ghost use Rattle.play_threads.specs.Seated.{AreLater};
+ghost use Rattle.caller.specs.Callers.{AreLater};
 ghost use Rattle.play_model.specs.Lines.{line_of};
 ghost use Rattle.play_model.specs.Actions.{MayCome};
-ghost use Rattle.play_threads.specs.Threads.{OperatesOn, HasOperated};
+ghost use Rattle.play_threads.specs.Threads.{Asks, OperatesOn, HasOperated};
 
-use crate::at_gates::GateSeats;
-use crate::gated_node::NodeGate;
-use crate::pass::Pass;
-use journal_core::OutOfMemory;
+use caller::{Caller, OperatedWire};
+use journal_core::{OutOfMemory, Peers};
 use journal_history::{NodeAsk, SharedStop};
 use play_script::ScriptLine;
 use std::alloc::Global;
-use std::sync::Wait;
 
-/// A line, if it is the operator's.
-#[tactic(auto, using(crate::proofs::OperatorLaws::operators))]
-fn take_operation<R: Wait, C: NodeGate, G: Pass>(
+/// What a line asks of a node, and of which, if it is the operator's.
+fn operation_of(
     alloc: Global,
+    nodes: usize,
     named: bool,
-    seats: &mut GateSeats<'_, R, C, G>,
     line: &ScriptLine,
-) -> Result<(), OutOfMemory>
-    requires may { MayCome named seats.old.log.nodes line.now }
-    ensures takes { OnOk result (OperatesOn (line_of line.now) seats.old.log.past seats.new.log.past) }
-    ensures later { OnOk result (AreLater seats.old seats.new) }
+) -> Result<Option<(usize, NodeAsk)>, OutOfMemory>
+    requires { MayCome named nodes line.now }
+    ensures asks { IfOk result (λ found. Asks found (line_of line.now)) }
+    ensures there { IfOk result (λ found. IfSome found (λ x. (1 ≤ x.0) × (x.0 ≤ nodes))) }
 {
+    let _ = nodes;
     let _ = named;
-    match line {
-        ScriptLine::Kill { node } => {
-            let _ = seats.operate(*node, NodeAsk::Kill)?;
-        }
-        ScriptLine::Restart { node } => {
-            let _ = seats.operate(*node, NodeAsk::Restart)?;
-        }
+    Ok(match line {
+        ScriptLine::Kill { node } => Some((*node, NodeAsk::Kill)),
+        ScriptLine::Restart { node } => Some((*node, NodeAsk::Restart)),
         ScriptLine::Arm { node, calls, stop } => {
             let asked = NodeAsk::Arm {
                 calls: *calls,
                 stop: SharedStop::of(alloc, *stop)?,
             };
-            let _ = seats.operate(*node, asked)?;
+            Some((*node, asked))
         }
-        ScriptLine::Declare { .. } => {}
-        ScriptLine::Takeover { .. } => {}
-        ScriptLine::Roll { .. } => {}
-        ScriptLine::Close { .. } => {}
-        ScriptLine::Log { .. } => {}
-        ScriptLine::Edits { .. } => {}
-        ScriptLine::Purge { .. } => {}
-        ScriptLine::Trim { .. } => {}
-        ScriptLine::Tail { .. } => {}
-        ScriptLine::Checkpoint { .. } => {}
-        ScriptLine::Reload { .. } => {}
-        ScriptLine::Drop { .. } => {}
-        ScriptLine::Mute { .. } => {}
-        ScriptLine::Late { .. } => {}
+        ScriptLine::Declare { .. } => None,
+        ScriptLine::Takeover { .. } => None,
+        ScriptLine::Roll { .. } => None,
+        ScriptLine::Close { .. } => None,
+        ScriptLine::Log { .. } => None,
+        ScriptLine::Edits { .. } => None,
+        ScriptLine::Purge { .. } => None,
+        ScriptLine::Trim { .. } => None,
+        ScriptLine::Tail { .. } => None,
+        ScriptLine::Checkpoint { .. } => None,
+        ScriptLine::Reload { .. } => None,
+        ScriptLine::Drop { .. } => None,
+        ScriptLine::Mute { .. } => None,
+        ScriptLine::Late { .. } => None,
+    })
+}
+
+/// A line, if it is the operator's.
+#[tactic(auto, using(crate::proofs::OperatorLaws::takes))]
+fn take_operation<W: OperatedWire>(
+    alloc: Global,
+    named: bool,
+    by: &mut Caller<W>,
+    line: &ScriptLine,
+) -> Result<(), OutOfMemory>
+    requires may { MayCome named by.old.log.nodes line.now }
+    ensures takes { OnOk result (OperatesOn (line_of line.now) by.old.log.past by.new.log.past) }
+    ensures later { OnOk result (AreLater W.WireModel by.old by.new) }
+{
+    match operation_of(alloc, by.nodes(), named, line)? {
+        Some((node, asked)) => {
+            let _ = by.operate(node, asked)?;
+            Ok(())
+        }
+        None => Ok(()),
     }
-    Ok(())
 }
 
 /// All lines of the operator at these seats: what it lists is what they ask, in order.
-#[tactic(auto, using(crate::proofs::OperatorLaws::operators))]
-pub(crate) fn operate_alone<R: Wait, C: NodeGate, G: Pass>(
+pub(crate) fn operate_alone<W: OperatedWire>(
     alloc: Global,
     named: bool,
     lines: &[ScriptLine],
-    seats: &mut GateSeats<'_, R, C, G>,
+    by: &mut Caller<W>,
 ) -> Result<(), OutOfMemory>
-    requires log { seats.old.log ≡ new_log seats.old.log.nodes true }
-    requires may { All (MayCome named seats.old.log.nodes) lines.now }
-    ensures operates { OnOk result (HasOperated (map line_of lines.now) seats.new.log.past) }
-    ensures later { OnOk result (AreLater seats.old seats.new) }
+    requires log { by.old.log ≡ new_log by.old.log.nodes true }
+    requires may { All (MayCome named by.old.log.nodes) lines.now }
+    ensures operates { OnOk result (HasOperated (map line_of lines.now) by.new.log.past) }
+    ensures later { OnOk result (AreLater W.WireModel by.old by.new) }
 {
     for line in lines {
-        take_operation(alloc, named, seats, line)?;
+        take_operation(alloc, named, by, line)?;
     }
     Ok(())
 }

@@ -1,8 +1,8 @@
 use Rattle.std.proofs.Common.{map, take}
-use Rattle.play_threads.specs.Seated.{AreLater}
+use Rattle.caller.specs.Callers.{AreLater}
 use Rattle.play_model.specs.Lines.{line_of}
 use Rattle.play_threads.specs.Threads.{HasOperated}
 use Rattle.play_threads.proofs.operator_lines.operate_alone.Given as goal
 
 abbrev pub invariant-loop-line : goal.invariant-loop-line
-invariant-loop-line g l = HasOperated (map line_of (take l.line-index l.lines)) l.seats.log.past × AreLater l.initial.seats l.seats
+invariant-loop-line g l = HasOperated (map line_of (take l.line-index l.lines)) l.by.log.past × AreLater g.W.WireModel l.initial.by l.by

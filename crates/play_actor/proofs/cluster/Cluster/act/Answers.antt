@@ -28,7 +28,7 @@ invariant_of-result g c =
     c.of-seats.result.log c.into_parts-wire.result.1 t.caller t.cells.items (seats_of c.take_line.new.seats)
     (back_so c.into_parts-wire.result.0 t.caller t.cells.items c.into_parts-wire.result.1 c.take_line.new.seats c.wire.view_is c.into_parts-wire.ensures.wire c.into_parts-wire.ensures.log)
     (made_later c.of-seats.result c.args.actor s.cells.items (seats_of c.take_line.new.seats) (ap (λ x. x.wire) c.of-seats.ensures)
-    (nodes_go _ (λ v. refl) (λ n r h o m x. x) (λ n o m x. x) (λ n r o m x. x) (λ o m x. x) c.of-seats.result c.take_line.new.seats c.in_ok-take_line.ensures.later))
+    (nodes_go _ (λ v. refl) (λ n r h o m x. x) (λ n o m x. x) (λ n r o m x. x) (λ n a d o m x. x) (λ o m x. x) c.of-seats.result c.take_line.new.seats c.in_ok-take_line.ensures.later))
     (count_so c.into_parts-wire.result.0 t.caller t.cells.items c.into_parts-wire.result.1.nodes c.wire.view_is c.into_parts-wire.ensures.nodes) c.self.invariant
     (log_seated g.A.Actor.seen s.named s.cells.items s.players.items s.operator s.operated c.args.self c.args.actor p c.of-seats.result.log
     c.self.view_is c.self.invariant c.index_mut-player.ensures.value c.requires.there own) refl
@@ -48,5 +48,5 @@ returns g c d is =
     (back_so c.into_parts-wire.result.0 t.caller t.cells.items c.into_parts-wire.result.1 c.take_line.new.seats c.wire.view_is c.into_parts-wire.ensures.wire c.into_parts-wire.ensures.log)
     c.in_ok-take_line.ensures.takes c.in_ok-take_line.ensures.named
     (made_later c.of-seats.result c.args.actor s.cells.items (seats_of c.take_line.new.seats) (ap (λ x. x.wire) c.of-seats.ensures)
-    (nodes_go _ (λ v. refl) (λ n r h o m x. x) (λ n o m x. x) (λ n r o m x. x) (λ o m x. x) c.of-seats.result c.take_line.new.seats c.in_ok-take_line.ensures.later))
+    (nodes_go _ (λ v. refl) (λ n r h o m x. x) (λ n o m x. x) (λ n r o m x. x) (λ n a d o m x. x) (λ o m x. x) c.of-seats.result c.take_line.new.seats c.in_ok-take_line.ensures.later))
     marked refl refl
