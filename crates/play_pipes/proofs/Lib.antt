@@ -7,3 +7,4 @@ pub mod KeptLaws
 pub mod PipeLineLaws
 pub mod PipeSeatLaws
 pub mod PipeWorkLaws
+pub mod DesksGo

@@ -300,7 +300,7 @@ on_ok : {A E : Type 0} {P Q : Type 0} (r : Result A E) → (P → Q) → OnOk r 
 on_ok (Ok a) f h = f h
 on_ok (Err e) f h = tt
 
-said_go : (log new : LogView) (ahead : List PeerCall) (lists : List Calls) (text : List ℕ) → new ≡ with_line log (Outcome text) → PipesGo log ahead lists new ahead lists
+pub said_go : (log new : LogView) (ahead : List PeerCall) (lists : List Calls) (text : List ℕ) → new ≡ with_line log (Outcome text) → PipesGo log ahead lists new ahead lists
 said_go log new ahead lists text e =
     record {
       nodes = ap (λ l. l.nodes) e;

@@ -35,6 +35,10 @@ Leads fronts ahead lists = (length fronts ≡ length lists) × ((i : ℕ) → i 
 abbrev pub HearsAhead : List Calls → List PeerCall → List Calls → Type 0
 HearsAhead old ahead new = (fronts : List Calls) → Leads fronts [] old → Leads fronts ahead new
 
+-- the lists lead on from wherever they led
+abbrev pub LeadsOn : List PeerCall → List Calls → List PeerCall → List Calls → Type 0
+LeadsOn ahead old ahead' new = (fronts : List Calls) → Leads fronts ahead old → Leads fronts ahead' new
+
 -- this was heard of a call, ahead or now
 abbrev pub HearsOne : ℕ → Request → Heard → List PeerCall → List Calls → List PeerCall → List Calls → Type 0
 HearsOne node r heard ahead old ahead' new = (fronts : List Calls) → Leads fronts ahead old → Leads (gained (node ∷ []) r (Ok heard ∷ []) fronts) ahead' new

@@ -114,7 +114,8 @@ impl<L: Line> Desk<L> {
 
     /// For how many nodes it has a line.
     pub fn nodes(&self) -> usize
-        ensures { result ≡ length self.now.lists }
+        ensures lists { result ≡ length self.now.lists }
+        ensures starts { result ≡ length self.now.starts }
     {
         self.ends.len()
     }

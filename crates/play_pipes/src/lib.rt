@@ -12,7 +12,7 @@ mod ahead;
 mod answered;
 mod ask;
 mod desk;
-mod desk_seats;
+mod desk_wire;
 mod end;
 mod gate_line;
 mod kept;

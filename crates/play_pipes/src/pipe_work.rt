@@ -5,10 +5,10 @@ ghost use Rattle.play_model.specs.Actions.{MayCome};
 ghost use Rattle.play_pipes.specs.MayProp.{all_come_prop};
 
 use crate::desk::Desk;
-use crate::desk_seats::DeskSeats;
+use crate::desk_wire::DeskWire;
 use crate::line::Line;
-use crate::piping::take_back;
 use crate::work::Work;
+use caller::Caller;
 use journal_core::OutOfMemory;
 use journal_history::{ActorPlan, RecordList};
 use ns_tree::LastSpace;
@@ -17,6 +17,7 @@ use play_script::ScriptLine;
 use play_threads::Actors;
 use std::alloc::{AllocError, Global};
 use std::marker::PhantomData;
+use std::mem;
 use std::sync::Wait;
 
 /// What an actor leaves: its record and its marks, and what it holds at last, if it has a
@@ -75,7 +76,7 @@ impl<'l, K: Actors> ActorWork<'l, K> {
     }
 }
 
-impl<'l, L: Line, K: Actors> Work<L> for ActorWork<'l, K> {
+impl<'l, L: Line + Drop, K: Actors> Work<L> for ActorWork<'l, K> {
     ghost use Rattle.std.specs.Prelude.{map};
     ghost use Rattle.play_model.specs.Lines.{actions_of, line_of};
     ghost use Rattle.play_pipes.specs.PipeWork.{HasWorked};
@@ -91,17 +92,20 @@ impl<'l, L: Line, K: Actors> Work<L> for ActorWork<'l, K> {
         desk: &mut Desk<L>,
     ) -> Result<(), OutOfMemory> {
         let log = CallerLog::new(alloc, self.nodes)?;
-        let mut seats = DeskSeats::new(rt, alloc, &mut *desk, log);
-        let done = K::act(alloc, self.named, self.lines, self.actor, &mut seats);
-        let DeskSeats {
+        let _ = desk.nodes();
+        let own = mem::replace(desk, Desk::new(Vec::new(alloc)));
+        let mut by = Caller::of(DeskWire::new(rt, alloc, own), log);
+        let done = K::act(alloc, self.named, self.lines, self.actor, &mut by);
+        let is_whole = by.is_whole();
+        let (wire, log) = by.into_parts();
+        let DeskWire {
             rt: _,
-            desk: lent,
-            log,
+            desk: own,
             ahead,
-        } = seats;
-        take_back(lent);
+        } = wire;
+        *desk = own;
         let last = done?;
-        if !ahead.is_empty() || !log.is_whole() {
+        if !ahead.is_empty() || !is_whole {
             return Err(AllocError);
         }
         let (past, marks) = log.into_parts();

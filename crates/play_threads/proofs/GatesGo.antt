@@ -129,8 +129,7 @@ pub start_seated : (c : ℕ) (ts : List TableId) (seats : List Seat) (m : ℕ) (
 start_seated c ts seats m v s e f h =
     let k : length v.seats ≡ m = ap (λ (x : GatesView). length x.seats) e ∙ h.count in
     let log : s.log ≡ new_log m true = ap (λ (x : CallerView GatesView). x.log) f ∙ ap (λ n. new_log n true) k in
-    let wire : s.wire ≡ record { caller = c; tables = ts; seats = seats } = ap (λ (x : CallerView GatesView). x.wire) f ∙ e in
-    (
+    let wire : s.wire ≡ record { caller = c; tables = ts; seats = seats } = ap (λ (x : CallerView GatesView). x.wire) f ∙ e in (
       record {
         caller = ap (λ (x : GatesView). x.caller) wire;
         tables = ap (λ (x : GatesView). x.tables) wire;

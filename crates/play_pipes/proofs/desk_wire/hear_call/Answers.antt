@@ -3,8 +3,8 @@ use Rattle.std.proofs.lemmas.Result.{IfOk-weaker}
 use Rattle.play_pipes.specs.Desks.{DeskView}
 use Rattle.play_pipes.specs.PipeSeats.{HearsOne}
 use Rattle.play_pipes.proofs.PipeSeatLaws.{hears_asked, hears_taken}
-use Rattle.play_pipes.proofs.desk_seats.hear_call.Goals.{then-is_empty+else-nodes-node+in_ok-nodes+in_ok-ahead, else-is_empty}
-use Rattle.play_pipes.proofs.desk_seats.hear_call.Goals as goal
+use Rattle.play_pipes.proofs.desk_wire.hear_call.Goals.{then-is_empty+else-nodes-node+in_ok-nodes+in_ok-ahead, else-is_empty}
+use Rattle.play_pipes.proofs.desk_wire.hear_call.Goals as goal
 
 pub returns-clause-hears : goal.returns-clause-hears
 returns-clause-hears g c =
