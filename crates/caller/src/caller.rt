@@ -9,7 +9,7 @@ ghost use Rattle.caller.specs.Callers.{CallGoes, IsTold, IsCalledOver, AreLater}
 
 use crate::wire::{CopyWire, OperatedWire, Wire};
 use journal_core::{Bytes, Heard, OutOfMemory, Peers, SharedRequest};
-use journal_history::{NodeAsk, Told};
+use journal_history::{ListedRecord, NodeAsk, Told};
 use play_calls::{CallerLog, Delivery, Seats, heard_of};
 use std::alloc::Global;
 use std::marker::Model;
@@ -117,6 +117,20 @@ impl<W: Wire> Caller<W> {
         ensures marked { self.now.log.whole ≡ true → IsMarked self.now.log.marks [] self.now.log.past }
     {
         self.log.is_whole()
+    }
+
+    /// The wire.
+    pub fn wire(&self) -> &W
+        ensures { result.now ≡ self.now.wire }
+    {
+        &self.wire
+    }
+
+    /// What was listed.
+    pub fn records(&self) -> &[ListedRecord]
+        ensures { result.now ≡ self.now.log.past }
+    {
+        self.log.records()
     }
 
     /// The wire, and what was listed and marked.

@@ -3,6 +3,7 @@ ghost use Rattle.std.specs.Prelude.{◌≡◌, ◌≤◌, true};
 ghost use Rattle.play_calls.specs.Logs.{new_log};
 ghost use Rattle.pipe_lead.specs.Begun.{IsBegun};
 ghost use Rattle.pipe_seats.specs.Opened.{came_as};
+ghost use Rattle.pipe_seats.specs.Wires.{pipes_of};
 ghost use Rattle.cli_commands.specs.Faults.{status_of, line_of};
 ghost use Rattle.cli_commands.specs.Told.{IsBadFile, WritesLine};
 ghost use Rattle.cli_commands.specs.Uses.{read_from, written_to};
@@ -11,10 +12,11 @@ ghost use Rattle.cli_cluster.specs.Leads.{LeadsCluster, TellsLeadEnd};
 use crate::folder_actor::FolderActor;
 use base_disk::Disk;
 use base_outside::{Sink, Source};
+use caller::Caller;
 use cli_commands::{CommandFault, Status, line_for, status_for, write_line};
 use journal_session::LONGEST_LINE;
 use pipe_lead::{LeadEnd, lead};
-use pipe_seats::{Opener, PipeSeats};
+use pipe_seats::{Opener, PipeWire};
 use std::alloc::Global;
 
 /// Writes the line of a fault that has no name in it, and answers its status.
@@ -67,14 +69,14 @@ pub fn lead_cluster<
 >(
     alloc: Global,
     by: &mut FolderActor<D>,
-    seats: &mut PipeSeats<S, K, O>,
+    seats: &mut Caller<PipeWire<S, K, O>>,
     source: &mut I,
     sink: &mut P,
 ) -> Status
     requires some { 1 ≤ seats.old.log.nodes }
     requires begun { IsBegun seats.old.log.nodes by.old.actor }
     requires log { seats.old.log ≡ new_log seats.old.log.nodes true }
-    ensures { LeadsCluster (came_as O.are_of S.left K.taken) by.new.failed by.old.actor by.new.actor seats.old seats.new (read_from I.left I.faults source.old source.new) (written_to P.taken P.faults P.kept_back sink.old sink.new) result }
+    ensures { LeadsCluster (came_as O.are_of S.left K.taken) by.new.failed by.old.actor by.new.actor (pipes_of seats.old) (pipes_of seats.new) (read_from I.left I.faults source.old source.new) (written_to P.taken P.faults P.kept_back sink.old sink.new) result }
 {
     let end = lead::<FolderActor<D>, S, K, O, I, P>(alloc, by, seats, source, sink);
     end_lead(end, by.has_failed(), sink)

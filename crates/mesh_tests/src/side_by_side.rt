@@ -2,7 +2,7 @@
 ghost use Rattle.std.specs.Prelude.{None};
 
 use base_outside::{Failed, Sink, Source};
-use pipe_seats::{Opener, PipeSeats};
+use pipe_seats::{Opener, PipeWire};
 use std::cell::Cell;
 use writer_calls::QuorumWriter;
 
@@ -79,7 +79,7 @@ fn all_nodes_are_asked_before_a_reply_is_read(rt: HostRuntime) {
         written: &written,
         seen: &seen,
     };
-    let Ok(mut seats) = PipeSeats::new(rt.alloc(), 3, 7, ends) else {
+    let Ok(mut seats) = PipeWire::new_caller(rt.alloc(), 3, 7, ends) else {
         return;
     };
     let Ok(mut writer) = QuorumWriter::new(rt.alloc(), 3) else {

@@ -20,8 +20,11 @@ use Rattle.play_model.specs.Actor.{last_of}
 use Rattle.play_model.specs.Actions.{ActorView, has_names, kept_by, action_of, TakesIf, IsIdleActor}
 use Rattle.play_model.specs.KeptActor.{KeptActor}
 use Rattle.play_model.specs.Scripts.{ScriptsArePlayable}
-use Rattle.pipe_seats.specs.Piped.{PipesView, AreLater, AreResting}
-use Rattle.pipe_seats.specs.LaterLaws.{later_same, later_on}
+use Rattle.caller.specs.Callers.{AreLater}
+use Rattle.caller.specs.LaterLaws.{later_same, later_on}
+use Rattle.pipe_seats.specs.Piped.{AreLater as ArePipesLater, AreResting}
+use Rattle.pipe_seats.specs.Wires.{PipeCaller, pipe_wire, pipes_of, readies_none, readies_on}
+use Rattle.pipe_seats.proofs.PipesGo.{pipes_go}
 use Rattle.pipe_seats.proofs.PipeLaws.{text_snoc}
 use Rattle.pipe_lead.specs.declared.answer.Answer.{Answer}
 use Rattle.pipe_lead.specs.declared.answer.Answer.TheVariants as answer
@@ -95,7 +98,7 @@ written_more false a b c xs ys h k = front_after a b c xs ys h k
 
 -- ## So far
 -- so many lines of the input were read
-pub record LedSoFar (n : ℕ) (o actor : ActorView) (first now : PipesView) (given left before after : Option (List ℕ)) (whole : Bool) (count : ℕ) : Type 0 where
+pub record LedSoFar (n : ℕ) (o actor : ActorView) (first now : PipeCaller) (given left before after : Option (List ℕ)) (whole : Bool) (count : ℕ) : Type 0 where
   pub input : List (List ℕ)
   pub counted : length input ≡ count
   pub lines : List (List ℕ)
@@ -108,10 +111,10 @@ pub record LedSoFar (n : ℕ) (o actor : ActorView) (first now : PipesView) (giv
   pub told : AreTold n o steps (kept_by actor now.log) text
   pub written : IsWritten whole before after text
   pub named : has_names actor ≡ true
-  pub later : AreLater first now
-  pub resting : AreResting first.seats → AreResting now.seats
+  pub later : AreLater pipe_wire first now
+  pub resting : AreResting first.wire → AreResting now.wire
 
-pub led_first : (n : ℕ) (v : ActorView) (s : PipesView) (given before : Option (List ℕ)) → 1 ≤ n → IsBegun n v → s.log ≡ new_log n true
+pub led_first : (n : ℕ) (v : ActorView) (s : PipeCaller) (given before : Option (List ℕ)) → 1 ≤ n → IsBegun n v → s.log ≡ new_log n true
     → LedSoFar n v v s s given given before before true 0
 unfolding actions_of
 led_first n v s given before some e f = record {
@@ -127,12 +130,12 @@ led_first n v s given before some e f = record {
   told = subst (λ (k : KeptActor). AreTold n v [] k []) (sym (ap (kept_by v) f)) none;
   written = Appends-nil before;
   named = ap (λ (x : Option Holding). is_some x) e.holds;
-  later = later_same s;
+  later = later_same pipe_wire readies_none s;
   resting = λ r. r;
 }
 
 -- one line was answered, of the input or put in
-led_more : (n : ℕ) (o : ActorView) (whole : Bool) (line : List ℕ) (v w : ActorView) (first s t : PipesView) (given mid left a b c : Option (List ℕ)) (count sum : ℕ) (input : List (List ℕ))
+led_more : (n : ℕ) (o : ActorView) (whole : Bool) (line : List ℕ) (v w : ActorView) (first s t : PipeCaller) (given mid left a b c : Option (List ℕ)) (count sum : ℕ) (input : List (List ℕ))
     → s.log.nodes ≡ n → (h : LedSoFar n o v first s given mid a b true count) → IsAnsweredAs whole line v s w t b c → length input ≡ sum → IsWithRolls input (h.lines ++ line ∷ [])
     → Consumes given left (lines_text input) → LedSoFar n o w first t given left a c whole sum
 led_more n o whole line v w first s t given mid left a b c count sum input nodes h k counted put_in read =
@@ -153,18 +156,18 @@ led_more n o whole line v w first s t given mid left a b c count sum input nodes
       told = told_step n o h.steps h.text taken.step k.of (kept_by v s.log) (kept_by w t.log) more h.told taken.answered taken.takes past;
       written = written_more whole a b c h.text (answer_text k.of more) h.written k.written;
       named = k.named;
-      later = later_on first s t h.later k.later;
+      later = later_on pipe_wire readies_on first s t h.later k.later;
       resting = λ r. k.resting;
     }
 
-pub led_next : (n : ℕ) (o : ActorView) (whole : Bool) (line : List ℕ) (v w : ActorView) (first s t : PipesView) (given mid left a b c : Option (List ℕ)) (count : ℕ) → s.log.nodes ≡ n
+pub led_next : (n : ℕ) (o : ActorView) (whole : Bool) (line : List ℕ) (v w : ActorView) (first s t : PipeCaller) (given mid left a b c : Option (List ℕ)) (count : ℕ) → s.log.nodes ≡ n
     → LedSoFar n o v first s given mid a b true count → IsAnsweredAs whole line v s w t b c → Consumes mid left (line ++ 10 ∷ []) → LedSoFar n o w first t given left a c whole (count + 1)
 led_next n o whole line v w first s t given mid left a b c count nodes h k read =
     led_more n o whole line v w first s t given mid left a b c count (count + 1) (h.input ++ line ∷ []) nodes h k (omega (arith, length-append h.input (line ∷ []), h.counted))
     (its_line h.input h.lines line h.put_in)
     (subst (λ (x : List ℕ). Consumes given left x) (text_snoc h.input line) (Consumes-trans given mid left (lines_text h.input) (line ++ 10 ∷ []) h.read read))
 
-pub led_rolled : (n : ℕ) (o : ActorView) (whole : Bool) (v w : ActorView) (first s t : PipesView) (given left a b c : Option (List ℕ)) (count : ℕ) → s.log.nodes ≡ n
+pub led_rolled : (n : ℕ) (o : ActorView) (whole : Bool) (v w : ActorView) (first s t : PipeCaller) (given left a b c : Option (List ℕ)) (count : ℕ) → s.log.nodes ≡ n
     → LedSoFar n o v first s given left a b true count → IsAnsweredAs whole (codes "roll") v s w t b c → LedSoFar n o w first t given left a c whole count
 led_rolled n o whole v w first s t given left a b c count nodes h k =
     led_more n o whole (codes "roll") v w first s t given left left a b c count count h.input nodes h k h.counted (one_roll h.input h.lines h.put_in) h.read
@@ -177,7 +180,7 @@ let_go r q (Some x) None xs e h = absurd h
 let_go r q (Some x) (Some y) xs e h = ap (λ (l : List ℕ). l ++ x) (sym e) ∙ h ∙ sym (append_assoc xs q.held y)
 
 -- the lines were told whole, or a front of them where a write failed
-pub has_led : (end : LeadEnd) (n : ℕ) (o : ActorView) (v : ActorView) (first s : PipesView) (r q : LineReaderView) (given left a b : Option (List ℕ)) (count : ℕ) → r.held ≡ []
+pub has_led : (end : LeadEnd) (n : ℕ) (o : ActorView) (v : ActorView) (first s : PipeCaller) (r q : LineReaderView) (given left a b : Option (List ℕ)) (count : ℕ) → r.held ≡ []
     → (h : LedSoFar n o v first s (to_come r given) (to_come q left) a b (tells_all end) count) → EndsAt end h.input q.held left → HasLed n o v s.log given left a b end
 has_led end n o v first s r q given left a b count e h ends = record {
   input = h.input;
@@ -195,7 +198,7 @@ has_led end n o v first s r q given left a b count e h ends = record {
 }
 
 -- some bytes more were read
-led_rest : (end : LeadEnd) (n : ℕ) (o : ActorView) (v : ActorView) (first s : PipesView) (r q p : LineReaderView) (given mid left a b : Option (List ℕ)) (count : ℕ) (bytes : List ℕ)
+led_rest : (end : LeadEnd) (n : ℕ) (o : ActorView) (v : ActorView) (first s : PipeCaller) (r q p : LineReaderView) (given mid left a b : Option (List ℕ)) (count : ℕ) (bytes : List ℕ)
     → tells_all end ≡ true → r.held ≡ [] → (h : LedSoFar n o v first s (to_come r given) (to_come q mid) a b true count)
     → Consumes (to_come q mid) (to_come p left) bytes → EndsAt end h.input (bytes ++ p.held) left → HasLed n o v s.log given left a b end
 led_rest end n o v first s r q p given mid left a b count bytes all e h more ends = record {
@@ -219,7 +222,7 @@ line_alone : (line : List ℕ) (p : LineReaderView) (left : Option (List ℕ)) �
 line_alone line p left one h = subst (λ (x : List ℕ). IsLine x) (sym (ap (λ (x : List ℕ). line ++ x) h.held ∙ append-nil line)) one
 
 -- where there is no next line; of an input that is counted anew no line comes too late
-pub ends_at : (of : Next) (end : LeadEnd) (line : List ℕ) (n : ℕ) (o : ActorView) (v : ActorView) (first s : PipesView) (r q p : LineReaderView) (given mid left a b : Option (List ℕ)) (count : ℕ)
+pub ends_at : (of : Next) (end : LeadEnd) (line : List ℕ) (n : ℕ) (o : ActorView) (v : ActorView) (first s : PipeCaller) (r q p : LineReaderView) (given mid left a b : Option (List ℕ)) (count : ℕ)
     → r.held ≡ [] → LedSoFar n o v first s (to_come r given) (to_come q mid) a b true count → q.taken ≡ 0 → IsNextLine of line q p mid left → end_of of ≡ Some end
     → IfLasts end (HasLed n o v s.log given left a b end)
 ends_at next.Line end line n o v first s r q p given mid left a b count e h z k is = absurd (cc is)
@@ -245,15 +248,15 @@ ends_at next.OutOfMemory end line n o v first s r q p given mid left a b count e
     let same : lead_end.OutOfMemory ≡ end = cc is in
     subst (λ (x : LeadEnd). IfLasts x (HasLed n o v s.log given left a b x)) same tt
 
-pub later_at : (end : LeadEnd) (first s : PipesView) → AreLater first s → IfLasts end (AreLater first s)
-later_at lead_end.Done first s h = h
-later_at lead_end.LongLine first s h = h
-later_at lead_end.ReadFault first s h = h
-later_at lead_end.WriteFault first s h = h
+pub later_at : (end : LeadEnd) (first s : PipeCaller) → AreLater pipe_wire first s → IfLasts end (ArePipesLater (pipes_of first) (pipes_of s))
+later_at lead_end.Done first s h = pipes_go first s h
+later_at lead_end.LongLine first s h = pipes_go first s h
+later_at lead_end.ReadFault first s h = pipes_go first s h
+later_at lead_end.WriteFault first s h = pipes_go first s h
 later_at lead_end.OutOfMemory first s h = tt
 
 -- where a line ends it
-pub ends_with : (of : LeadEnd) (line : List ℕ) (n : ℕ) (o : ActorView) (v w : ActorView) (first s t : PipesView) (r q p : LineReaderView) (given mid left a b c : Option (List ℕ)) (count : ℕ)
+pub ends_with : (of : LeadEnd) (line : List ℕ) (n : ℕ) (o : ActorView) (v w : ActorView) (first s t : PipeCaller) (r q p : LineReaderView) (given mid left a b c : Option (List ℕ)) (count : ℕ)
     → r.held ≡ [] → s.log.nodes ≡ n → LedSoFar n o v first s (to_come r given) (to_come q mid) a b true count → IsAnswered (Some of) line v s w t b c
     → Consumes (to_come q mid) (to_come p left) (line ++ 10 ∷ []) → IfLasts of (HasLed n o w t.log given left a c of)
 ends_with lead_end.Done line n o v w first s t r q p given mid left a b c count e nodes h k read = absurd k
@@ -265,7 +268,7 @@ ends_with lead_end.WriteFault line n o v w first s t r q p given mid left a b c 
 ends_with lead_end.OutOfMemory line n o v w first s t r q p given mid left a b c count e nodes h k read = tt
 
 -- where the roll that is put in ends it
-pub ends_rolled : (of : LeadEnd) (n : ℕ) (o : ActorView) (v w : ActorView) (first s t : PipesView) (r q : LineReaderView) (given left a b c : Option (List ℕ)) (count : ℕ) → r.held ≡ []
+pub ends_rolled : (of : LeadEnd) (n : ℕ) (o : ActorView) (v w : ActorView) (first s t : PipeCaller) (r q : LineReaderView) (given left a b c : Option (List ℕ)) (count : ℕ) → r.held ≡ []
     → s.log.nodes ≡ n → LedSoFar n o v first s (to_come r given) (to_come q left) a b true count → IsAnswered (Some of) (codes "roll") v s w t b c → IfLasts of (HasLed n o w t.log given left a c of)
 ends_rolled lead_end.Done n o v w first s t r q given left a b c count e nodes h k = absurd k
 ends_rolled lead_end.LongLine n o v w first s t r q given left a b c count e nodes h k = absurd k
@@ -274,12 +277,12 @@ ends_rolled lead_end.WriteFault n o v w first s t r q given left a b c count e n
     has_led lead_end.WriteFault n o w first t r q given left a c count e (led_rolled n o false v w first s t (to_come r given) (to_come q left) a b c count nodes h k) tt
 ends_rolled lead_end.OutOfMemory n o v w first s t r q given left a b c count e nodes h k = tt
 
-pub later_with : (of : LeadEnd) (line : List ℕ) (v w : ActorView) (first s t : PipesView) (b c : Option (List ℕ)) → AreLater first s
-    → IsAnswered (Some of) line v s w t b c → IfLasts of (AreLater first t)
+pub later_with : (of : LeadEnd) (line : List ℕ) (v w : ActorView) (first s t : PipeCaller) (b c : Option (List ℕ)) → AreLater pipe_wire first s
+    → IsAnswered (Some of) line v s w t b c → IfLasts of (ArePipesLater (pipes_of first) (pipes_of t))
 later_with lead_end.Done line v w first s t b c h k = absurd k
 later_with lead_end.LongLine line v w first s t b c h k = absurd k
 later_with lead_end.ReadFault line v w first s t b c h k = absurd k
-later_with lead_end.WriteFault line v w first s t b c h k = later_on first s t h k.later
+later_with lead_end.WriteFault line v w first s t b c h k = pipes_go first t (later_on pipe_wire readies_on first s t h k.later)
 later_with lead_end.OutOfMemory line v w first s t b c h k = tt
 
 -- nothing is under way at its end
@@ -290,38 +293,38 @@ at_rest lead_end.ReadFault P h = h
 at_rest lead_end.WriteFault P h = h
 at_rest lead_end.OutOfMemory P h = tt
 
-rest_with : (of : LeadEnd) (line : List ℕ) (v w : ActorView) (first s t : PipesView) (b c : Option (List ℕ)) → IsAnswered (Some of) line v s w t b c
-    → IfLasts of (AreResting first.seats → AreResting t.seats)
+rest_with : (of : LeadEnd) (line : List ℕ) (v w : ActorView) (first s t : PipeCaller) (b c : Option (List ℕ)) → IsAnswered (Some of) line v s w t b c
+    → IfLasts of (AreResting first.wire → AreResting t.wire)
 rest_with lead_end.Done line v w first s t b c k = absurd k
 rest_with lead_end.LongLine line v w first s t b c k = absurd k
 rest_with lead_end.ReadFault line v w first s t b c k = absurd k
 rest_with lead_end.WriteFault line v w first s t b c k = λ r. k.resting
 rest_with lead_end.OutOfMemory line v w first s t b c k = tt
 
-pub lines_cut_rest : (of : LeadEnd) (line : List ℕ) (v w : ActorView) (first s t : PipesView) (b c : Option (List ℕ)) → IsAnsweredInTime (Some of) line v s w t b c
-    → IfLasts of (AreResting first.seats → AreResting t.seats)
+pub lines_cut_rest : (of : LeadEnd) (line : List ℕ) (v w : ActorView) (first s t : PipeCaller) (b c : Option (List ℕ)) → IsAnsweredInTime (Some of) line v s w t b c
+    → IfLasts of (AreResting first.wire → AreResting t.wire)
 lines_cut_rest of line v w first s t b c (inl one) = rest_with of line v w first s t b c one
 lines_cut_rest of line v w first s t b c (inr two) = rest_with of (codes "roll") two.actor w first two.seats t two.told c two.roll
 
 -- ## One line
-pub past_grows : (s t : PipesView) (from : ℕ) → from ≡ length s.log.past → AreLater s t → from ≤ length t.log.past
+pub past_grows : (s t : PipeCaller) (from : ℕ) → from ≡ length s.log.past → AreLater pipe_wire s t → from ≤ length t.log.past
 past_grows s t from e h =
     let more : length t.log.past ≡ length s.log.past + length h.lines = ap length h.past ∙ length-append s.log.past h.lines in
     omega (arith, e, more)
 
-written_text : (whole : Bool) (of : Answer) (s t : PipesView) (a b : Option (List ℕ)) (from : ℕ) (text : List ℕ) → from ≡ length s.log.past → text ≡ answer_text of (drop from t.log.past)
+written_text : (whole : Bool) (of : Answer) (s t : PipeCaller) (a b : Option (List ℕ)) (from : ℕ) (text : List ℕ) → from ≡ length s.log.past → text ≡ answer_text of (drop from t.log.past)
     → IsWritten whole a b text → IsWritten whole a b (answer_text of (drop (length s.log.past) t.log.past))
 written_text whole of s t a b from text e is h =
     subst (λ (n : ℕ). IsWritten whole a b (answer_text of (drop n t.log.past))) e (subst (λ (x : List ℕ). IsWritten whole a b x) is h)
 
-pub answered_well : (of : Answer) (line : List ℕ) (v w : ActorView) (s t : PipesView) (a b : Option (List ℕ)) (from : ℕ) (text : List ℕ)
-    → IsTaken s.log.nodes line of (kept_by v s.log) (kept_by w t.log) → has_names w ≡ true → AreLater s t → AreResting t.seats → from ≡ length s.log.past
+pub answered_well : (of : Answer) (line : List ℕ) (v w : ActorView) (s t : PipeCaller) (a b : Option (List ℕ)) (from : ℕ) (text : List ℕ)
+    → IsTaken s.log.nodes line of (kept_by v s.log) (kept_by w t.log) → has_names w ≡ true → AreLater pipe_wire s t → AreResting t.wire → from ≡ length s.log.past
     → text ≡ answer_text of (drop from t.log.past) → Appends a b text → IsAnswered None line v s w t a b
 answered_well of line v w s t a b from text taken named later rests e is h =
     record { of = of; taken = taken; named = named; later = later; resting = rests; written = written_text true of s t a b from text e is h }
 
-pub answered_ill : (of : Answer) (line : List ℕ) (v w : ActorView) (s t : PipesView) (a b : Option (List ℕ)) (from : ℕ) (text : List ℕ)
-    → IsTaken s.log.nodes line of (kept_by v s.log) (kept_by w t.log) → has_names w ≡ true → AreLater s t → AreResting t.seats → from ≡ length s.log.past
+pub answered_ill : (of : Answer) (line : List ℕ) (v w : ActorView) (s t : PipeCaller) (a b : Option (List ℕ)) (from : ℕ) (text : List ℕ)
+    → IsTaken s.log.nodes line of (kept_by v s.log) (kept_by w t.log) → has_names w ≡ true → AreLater pipe_wire s t → AreResting t.wire → from ≡ length s.log.past
     → text ≡ answer_text of (drop from t.log.past) → TakesFront a b text → IsAnswered (Some lead_end.WriteFault) line v s w t a b
 answered_ill of line v w s t a b from text taken named later rests e is h =
     record { of = of; taken = taken; named = named; later = later; resting = rests; written = written_text false of s t a b from text e is h }
@@ -339,18 +342,18 @@ step_idle n (Took line) old new h t = if_idle n (action_of (line_of line)) old n
 step_idle n Passed old new h t = subst (λ (k : KeptActor). IsIdleActor n k) (sym t) h
 step_idle n (Refused rule) old new h t = subst (λ (k : KeptActor). IsIdleActor n k) (sym t) h
 
-pub answered_idle : (line : List ℕ) (v w : ActorView) (s t : PipesView) (a b : Option (List ℕ)) → IsIdleActor s.log.nodes (kept_by v s.log) → IsAnsweredAs true line v s w t a b
+pub answered_idle : (line : List ℕ) (v w : ActorView) (s t : PipeCaller) (a b : Option (List ℕ)) → IsIdleActor s.log.nodes (kept_by v s.log) → IsAnsweredAs true line v s w t a b
     → IsIdleActor t.log.nodes (kept_by w t.log)
 answered_idle line v w s t a b h k =
     subst (λ (n : ℕ). IsIdleActor n (kept_by w t.log)) (sym k.later.nodes) (step_idle s.log.nodes k.taken.step (kept_by v s.log) (kept_by w t.log) h k.taken.takes)
 
-pub answered_named : (line : List ℕ) (v w : ActorView) (s t : PipesView) (a b : Option (List ℕ)) → IsAnsweredAs true line v s w t a b → has_names w ≡ true
+pub answered_named : (line : List ℕ) (v w : ActorView) (s t : PipeCaller) (a b : Option (List ℕ)) → IsAnsweredAs true line v s w t a b → has_names w ≡ true
 answered_named line v w s t a b k = k.named
 
-pub not_rolled : (of : Option LeadEnd) (line : List ℕ) (v w : ActorView) (s t : PipesView) (a b : Option (List ℕ)) → IsAnswered of line v s w t a b → IsAnsweredInTime of line v s w t a b
+pub not_rolled : (of : Option LeadEnd) (line : List ℕ) (v w : ActorView) (s t : PipeCaller) (a b : Option (List ℕ)) → IsAnswered of line v s w t a b → IsAnsweredInTime of line v s w t a b
 not_rolled of line v w s t a b h = inl h
 
-pub rolled : (of : Option LeadEnd) (line : List ℕ) (v u w : ActorView) (s r t : PipesView) (a b d : Option (List ℕ)) → IsAnsweredAs true line v s u r a b → IsAnswered of (codes "roll") u r w t b d
+pub rolled : (of : Option LeadEnd) (line : List ℕ) (v u w : ActorView) (s r t : PipeCaller) (a b d : Option (List ℕ)) → IsAnsweredAs true line v s u r a b → IsAnswered of (codes "roll") u r w t b d
     → IsAnsweredInTime of line v s w t a d
 rolled of line v u w s r t a b d h k = inr (record { actor = u; seats = r; told = b; first = h; roll = k })
 
@@ -360,18 +363,18 @@ pub ruleset in_time = (answered_idle, answered_named, not_rolled, rolled)
 abbrev pub fresh_reader : LineReaderView
 fresh_reader = record { held = []; taken = 0; line = [] }
 
-pub lines_first : (v : ActorView) (s : PipesView) (r : LineReaderView) (given before : Option (List ℕ)) → 1 ≤ s.log.nodes → IsBegun s.log.nodes v
+pub lines_first : (v : ActorView) (s : PipeCaller) (r : LineReaderView) (given before : Option (List ℕ)) → 1 ≤ s.log.nodes → IsBegun s.log.nodes v
     → s.log ≡ new_log s.log.nodes true → r.held ≡ []
     → LedSoFar s.log.nodes v v s s (to_come fresh_reader given) (to_come r given) before before true 0
 lines_first v s r given before some e f none_held =
     subst (λ (x : Option (List ℕ)). LedSoFar s.log.nodes v v s s (to_come fresh_reader given) x before before true 0) (ap (λ (l : List ℕ). prepend_known l given) (sym none_held))
     (led_first s.log.nodes v s (to_come fresh_reader given) before some e f)
 
-pub so_idle : (o v : ActorView) (first s : PipesView) (given left a b : Option (List ℕ)) (count : ℕ) → LedSoFar first.log.nodes o v first s given left a b true count
+pub so_idle : (o v : ActorView) (first s : PipeCaller) (given left a b : Option (List ℕ)) (count : ℕ) → LedSoFar first.log.nodes o v first s given left a b true count
     → IsIdleActor s.log.nodes (kept_by v s.log)
 so_idle o v first s given left a b count h = subst (λ (n : ℕ). IsIdleActor n (kept_by v s.log)) (sym h.later.nodes) h.done.idle
 
-pub so_named : (o v : ActorView) (first s : PipesView) (given left a b : Option (List ℕ)) (count : ℕ) → LedSoFar first.log.nodes o v first s given left a b true count → has_names v ≡ true
+pub so_named : (o v : ActorView) (first s : PipeCaller) (given left a b : Option (List ℕ)) (count : ℕ) → LedSoFar first.log.nodes o v first s given left a b true count → has_names v ≡ true
 so_named o v first s given left a b count h = h.named
 
 -- a line came
@@ -390,7 +393,7 @@ given_line of line q p mid left k e is =
     subst (λ (l : List ℕ). Consumes (to_come q mid) (to_come p left) (l ++ 10 ∷ [])) (sym is) (line_came of p.line q p mid left e k).given
 
 -- one line more, and maybe a roll behind it
-pub lines_next : (of : Next) (line : List ℕ) (o v w : ActorView) (first s t : PipesView) (q p n : LineReaderView) (given mid left a b c : Option (List ℕ)) (count : ℕ)
+pub lines_next : (of : Next) (line : List ℕ) (o v w : ActorView) (first s t : PipeCaller) (q p n : LineReaderView) (given mid left a b c : Option (List ℕ)) (count : ℕ)
     → LedSoFar first.log.nodes o v first s (to_come fresh_reader given) (to_come q mid) a b true count → IsNextLine of p.line q p mid left → end_of of ≡ None
     → n.held ≡ p.held → line ≡ p.line → IsAnsweredInTime None line v s w t b c
     → LedSoFar first.log.nodes o w first t (to_come fresh_reader given) (to_come n left) a c true (count + 1)
@@ -408,17 +411,13 @@ lines_next of line o v w first s t q p n given mid left a b c count h k came hel
         led_rolled first.log.nodes o true two.actor w first two.seats t (to_come fresh_reader given) (to_come p left) a two.told c (count + 1) so.later.nodes so two.roll
 
 -- no line more
-pub lines_end : (of : Next) (end : LeadEnd) (line : List ℕ) (o v : ActorView) (first s : PipesView) (q p : LineReaderView) (given mid left a b : Option (List ℕ)) (count : ℕ)
+pub lines_end : (of : Next) (end : LeadEnd) (line : List ℕ) (o v : ActorView) (first s : PipeCaller) (q p : LineReaderView) (given mid left a b : Option (List ℕ)) (count : ℕ)
     → LedSoFar first.log.nodes o v first s (to_come fresh_reader given) (to_come q mid) a b true count → q.taken ≡ 0 → IsNextLine of line q p mid left → end_of of ≡ Some end
     → IfLasts end (HasLed first.log.nodes o v s.log given left a b end)
 lines_end of end line o v first s q p given mid left a b count h z k is = ends_at of end line first.log.nodes o v first s fresh_reader q p given mid left a b count refl h z k is
 
-pub lines_later : (end : LeadEnd) (o v : ActorView) (first s : PipesView) (given left a b : Option (List ℕ)) (count : ℕ) → LedSoFar first.log.nodes o v first s given left a b true count
-    → IfLasts end (AreLater first s)
-lines_later end o v first s given left a b count h = later_at end first s h.later
-
 -- a line, or the roll behind it, ends it
-pub lines_cut : (got : Next) (of : LeadEnd) (line : List ℕ) (o v w : ActorView) (first s t : PipesView) (q p : LineReaderView) (given mid left a b c : Option (List ℕ)) (count : ℕ)
+pub lines_cut : (got : Next) (of : LeadEnd) (line : List ℕ) (o v w : ActorView) (first s t : PipeCaller) (q p : LineReaderView) (given mid left a b c : Option (List ℕ)) (count : ℕ)
     → LedSoFar first.log.nodes o v first s (to_come fresh_reader given) (to_come q mid) a b true count → IsNextLine got p.line q p mid left → end_of got ≡ None → line ≡ p.line
     → IsAnsweredInTime (Some of) line v s w t b c → IfLasts of (HasLed first.log.nodes o w t.log given left a c of)
 lines_cut got of line o v w first s t q p given mid left a b c count h k came is answered = by answered
@@ -432,23 +431,20 @@ lines_cut got of line o v w first s t q p given mid left a b c count h k came is
         let so = led_next first.log.nodes o true line v two.actor first s two.seats (to_come fresh_reader given) (to_come q mid) (to_come p left) a b two.told count h.later.nodes h two.first taken in
         ends_rolled of first.log.nodes o two.actor w first two.seats t fresh_reader p given left a two.told c (count + 1) refl so.later.nodes so two.roll
 
-pub lines_cut_later : (of : LeadEnd) (line : List ℕ) (o v w : ActorView) (first s t : PipesView) (given left a b c : Option (List ℕ)) (count : ℕ)
-    → LedSoFar first.log.nodes o v first s given left a b true count → IsAnsweredInTime (Some of) line v s w t b c → IfLasts of (AreLater first t)
+pub lines_cut_later : (of : LeadEnd) (line : List ℕ) (o v w : ActorView) (first s t : PipeCaller) (given left a b c : Option (List ℕ)) (count : ℕ)
+    → LedSoFar first.log.nodes o v first s given left a b true count → IsAnsweredInTime (Some of) line v s w t b c → IfLasts of (ArePipesLater (pipes_of first) (pipes_of t))
 lines_cut_later of line o v w first s t given left a b c count h (inl one) = later_with of line v w first s t b c h.later one
 lines_cut_later of line o v w first s t given left a b c count h (inr two) =
-    later_with of (codes "roll") two.actor w first two.seats t two.told c (later_on first s two.seats h.later two.first.later) two.roll
+    later_with of (codes "roll") two.actor w first two.seats t two.told c (later_on pipe_wire readies_on first s two.seats h.later two.first.later) two.roll
 
 -- the lines that a process can count came to their end
-pub lines_out : (o v : ActorView) (first s : PipesView) (q : LineReaderView) (given left a b : Option (List ℕ)) (count : ℕ)
+pub lines_out : (o v : ActorView) (first s : PipeCaller) (q : LineReaderView) (given left a b : Option (List ℕ)) (count : ℕ)
     → LedSoFar first.log.nodes o v first s (to_come fresh_reader given) (to_come q left) a b true count → 2 ^ 64 ≤ count + 1
     → HasLed first.log.nodes o v s.log given left a b lead_end.LongLine
 lines_out o v first s q given left a b count h many =
     has_led lead_end.LongLine first.log.nodes o v first s fresh_reader q given left a b count refl h (inr (omega (arith, many, h.counted)))
 
-pub lines_out_later : (o v : ActorView) (first s : PipesView) (given left a b : Option (List ℕ)) (count : ℕ) → LedSoFar first.log.nodes o v first s given left a b true count → AreLater first s
-lines_out_later o v first s given left a b count h = h.later
-
-pub ruleset line_by_line = (lines_first, so_idle, so_named, lines_next, lines_end, lines_later, lines_cut, lines_cut_later, lines_out, lines_out_later)
+pub ruleset line_by_line = (lines_first, so_idle, so_named, lines_next, lines_end, lines_cut, lines_cut_later, lines_out)
 
 -- ## A whole life
 pub leads : (end : LeadEnd) (n : ℕ) (o v : ActorView) (l : LogView) (given left a b : Option (List ℕ)) → HasLed n o v l given left a b end → Leads n o v l given left a b end

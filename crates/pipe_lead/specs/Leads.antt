@@ -15,7 +15,9 @@ use Rattle.play_model.specs.Actions.{ActorView, new_actor_view, has_names, kept_
 use Rattle.play_model.specs.KeptActor.{KeptActor}
 use Rattle.play_threads.specs.Threads.{FollowsActions}
 use Rattle.ns_tree.specs.declared.end.LastSpace.{LastSpace}
-use Rattle.pipe_seats.specs.Piped.{PipesView, AreLater, AreResting}
+use Rattle.caller.specs.Callers.{AreLater}
+use Rattle.pipe_seats.specs.Piped.{AreResting}
+use Rattle.pipe_seats.specs.Wires.{PipeCaller, pipe_wire}
 use Rattle.pipe_lead.specs.declared.answer.Answer.{Answer}
 use Rattle.pipe_lead.specs.declared.answer.Answer.TheVariants as answer
 use Rattle.pipe_lead.specs.declared.lead_end.LeadEnd.{LeadEnd}
@@ -73,31 +75,31 @@ IsWritten true before now text = Appends before now text
 IsWritten false before now text = TakesFront before now text
 
 -- One line was taken, no request is under way, and what is told of it was written, or a front of it.
-pub record IsAnsweredAs (whole : Bool) (line : List ℕ) (old : ActorView) (was : PipesView) (new : ActorView) (now : PipesView) (before after : Option (List ℕ)) : Type 0 where
+pub record IsAnsweredAs (whole : Bool) (line : List ℕ) (old : ActorView) (was : PipeCaller) (new : ActorView) (now : PipeCaller) (before after : Option (List ℕ)) : Type 0 where
   pub of : Answer
   pub taken : IsTaken was.log.nodes line of (kept_by old was.log) (kept_by new now.log)
   pub named : has_names new ≡ true
-  pub later : AreLater was now
-  pub resting : AreResting now.seats
+  pub later : AreLater pipe_wire was now
+  pub resting : AreResting now.wire
   pub written : IsWritten whole before after (answer_text of (drop (length was.log.past) now.log.past))
 
 -- or the process ends with it
-abbrev pub IsAnswered : Option LeadEnd → List ℕ → ActorView → PipesView → ActorView → PipesView → Option (List ℕ) → Option (List ℕ) → Type 0
+abbrev pub IsAnswered : Option LeadEnd → List ℕ → ActorView → PipeCaller → ActorView → PipeCaller → Option (List ℕ) → Option (List ℕ) → Type 0
 IsAnswered None line old was new now before after = IsAnsweredAs true line old was new now before after
 IsAnswered (Some lead_end.WriteFault) line old was new now before after = IsAnsweredAs false line old was new now before after
 IsAnswered (Some lead_end.OutOfMemory) line old was new now before after = Unit {0}
 IsAnswered (Some _) line old was new now before after = ⊥
 
 -- A line was answered, and then a `roll` that was put in behind it.
-pub record IsRolledBehind (of : Option LeadEnd) (line : List ℕ) (old : ActorView) (was : PipesView) (new : ActorView) (now : PipesView) (before after : Option (List ℕ)) : Type 0 where
+pub record IsRolledBehind (of : Option LeadEnd) (line : List ℕ) (old : ActorView) (was : PipeCaller) (new : ActorView) (now : PipeCaller) (before after : Option (List ℕ)) : Type 0 where
   pub actor : ActorView
-  pub seats : PipesView
+  pub seats : PipeCaller
   pub told : Option (List ℕ)
   pub first : IsAnsweredAs true line old was actor seats before told
   pub roll : IsAnswered of (codes "roll") actor seats new now told after
 
 -- with such a `roll` or without
-abbrev pub IsAnsweredInTime : Option LeadEnd → List ℕ → ActorView → PipesView → ActorView → PipesView → Option (List ℕ) → Option (List ℕ) → Type 0
+abbrev pub IsAnsweredInTime : Option LeadEnd → List ℕ → ActorView → PipeCaller → ActorView → PipeCaller → Option (List ℕ) → Option (List ℕ) → Type 0
 IsAnsweredInTime of line old was new now before after = IsAnswered of line old was new now before after ⊎ IsRolledBehind of line old was new now before after
 
 -- the lines of an input, in order, with some lines `roll` put in

@@ -6,6 +6,7 @@ ghost use Rattle.play_model.specs.Actions.{kept_by, has_names, IsIdleActor};
 ghost use Rattle.mesh.specs.Makers.{IsOfChores};
 ghost use Rattle.pipe_seats.specs.Opened.{came_as, CameAsTheirs};
 ghost use Rattle.pipe_seats.specs.Piped.{AreLater, AreResting};
+ghost use Rattle.pipe_seats.specs.Wires.{pipes_of};
 ghost use Rattle.pipe_lead.specs.Begun.{IsBegun};
 ghost use Rattle.pipe_lead.specs.Leads.{HasLed, Leads, IfLasts, IsAnswered, IsAnsweredInTime, answer_text, end_of};
 
@@ -14,9 +15,10 @@ use crate::inputs::take_input;
 use crate::lead_end::LeadEnd;
 use crate::results::{print_refusal, print_results};
 use base_outside::{Sink, Source, write_all};
+use caller::Caller;
 use journal_core::OutOfMemory;
 use journal_session::{LineReader, Next};
-use pipe_seats::{Opener, PipeSeats};
+use pipe_seats::{Opener, PipeWire};
 use play_model::{Actor, scripts_are_playable};
 use std::alloc::Global;
 
@@ -37,7 +39,7 @@ struct LeadRoom {
 /// place on.
 fn print_answer<S: Source + Drop, K: Sink + Drop, O: Opener<S, K> + Drop>(
     answer: Answer,
-    seats: &PipeSeats<S, K, O>,
+    seats: &Caller<PipeWire<S, K, O>>,
     from: usize,
     out: &mut Vec<u8>,
 ) -> Result<(), OutOfMemory>
@@ -62,7 +64,7 @@ fn print_answer<S: Source + Drop, K: Sink + Drop, O: Opener<S, K> + Drop>(
 fn answer_line<A: Actor, S: Source + Drop, K: Sink + Drop, O: Opener<S, K> + Drop, P: Sink>(
     alloc: Global,
     by: &mut A,
-    seats: &mut PipeSeats<S, K, O>,
+    seats: &mut Caller<PipeWire<S, K, O>>,
     line: &[u8],
     sink: &mut P,
     room: &mut LeadRoom,
@@ -80,7 +82,7 @@ fn answer_line<A: Actor, S: Source + Drop, K: Sink + Drop, O: Opener<S, K> + Dro
         return Some(LeadEnd::OutOfMemory);
     };
     // a round's calls are made to its end, so none is left: memory was wanting else
-    if !seats.are_resting() {
+    if !seats.wire().are_resting() {
         return Some(LeadEnd::OutOfMemory);
     }
     let Ok(()) = print_answer(answer, seats, from, &mut room.out) else {
@@ -96,7 +98,7 @@ fn answer_line<A: Actor, S: Source + Drop, K: Sink + Drop, O: Opener<S, K> + Dro
 fn put_roll<A: Actor, S: Source + Drop, K: Sink + Drop, O: Opener<S, K> + Drop, P: Sink>(
     alloc: Global,
     by: &mut A,
-    seats: &mut PipeSeats<S, K, O>,
+    seats: &mut Caller<PipeWire<S, K, O>>,
     sink: &mut P,
     room: &mut LeadRoom,
 ) -> Option<LeadEnd>
@@ -131,7 +133,7 @@ fn used_after(used: u64, line: &[u8]) -> u64 {
 fn answer_in_time<A: Actor, S: Source + Drop, K: Sink + Drop, O: Opener<S, K> + Drop, P: Sink>(
     alloc: Global,
     by: &mut A,
-    seats: &mut PipeSeats<S, K, O>,
+    seats: &mut Caller<PipeWire<S, K, O>>,
     line: &[u8],
     sink: &mut P,
     room: &mut LeadRoom,
@@ -182,7 +184,7 @@ pub fn lead_lines<
 >(
     alloc: Global,
     by: &mut A,
-    seats: &mut PipeSeats<S, K, O>,
+    seats: &mut Caller<PipeWire<S, K, O>>,
     source: &mut I,
     sink: &mut P,
 ) -> LeadEnd
@@ -190,8 +192,8 @@ pub fn lead_lines<
     requires begun { IsBegun seats.old.log.nodes (A.seen by.old) }
     requires log { seats.old.log ≡ new_log seats.old.log.nodes true }
     ensures led { IfLasts result (HasLed seats.old.log.nodes (A.seen by.old) (A.seen by.new) seats.new.log (I.left source.old) (I.left source.new) (P.taken sink.old) (P.taken sink.new) result) }
-    ensures later { IfLasts result (AreLater seats.old seats.new) }
-    ensures resting { IfLasts result (AreResting seats.old.seats → AreResting seats.new.seats) }
+    ensures later { IfLasts result (AreLater (pipes_of seats.old) (pipes_of seats.new)) }
+    ensures resting { IfLasts result (AreResting seats.old.wire → AreResting seats.new.wire) }
     ensures read_fault { result ≡ LeadEnd.ReadFault → Rose (I.faults source.old) (I.faults source.new) }
     ensures no_read_fault { result ≢ LeadEnd.ReadFault → I.faults source.new ≡ I.faults source.old }
     ensures write_fault { result ≡ LeadEnd.WriteFault → Rose (P.faults sink.old) (P.faults sink.new) }
@@ -226,7 +228,7 @@ pub fn lead_lines<
 pub fn lead<A: Actor, S: Source + Drop, K: Sink + Drop, O: Opener<S, K> + Drop, I: Source, P: Sink>(
     alloc: Global,
     by: &mut A,
-    seats: &mut PipeSeats<S, K, O>,
+    seats: &mut Caller<PipeWire<S, K, O>>,
     source: &mut I,
     sink: &mut P,
 ) -> LeadEnd
@@ -235,9 +237,9 @@ pub fn lead<A: Actor, S: Source + Drop, K: Sink + Drop, O: Opener<S, K> + Drop, 
     requires log { seats.old.log ≡ new_log seats.old.log.nodes true }
     ensures led { IfLasts result (Leads seats.old.log.nodes (A.seen by.old) (A.seen by.new) seats.new.log (I.left source.old) (I.left source.new) (P.taken sink.old) (P.taken sink.new) result) }
     ensures made { IfLasts result (IsOfChores seats.old.log.nodes seats.new.log.past) }
-    ensures piped { IfLasts result (AreLater seats.old seats.new) }
-    ensures opened { CameAsTheirs (came_as O.are_of S.left K.taken) seats.new.seats }
-    ensures resting { IfLasts result (AreResting seats.old.seats → AreResting seats.new.seats) }
+    ensures piped { IfLasts result (AreLater (pipes_of seats.old) (pipes_of seats.new)) }
+    ensures opened { CameAsTheirs (came_as O.are_of S.left K.taken) seats.new.wire }
+    ensures resting { IfLasts result (AreResting seats.old.wire → AreResting seats.new.wire) }
     ensures read_fault { result ≡ LeadEnd.ReadFault → Rose (I.faults source.old) (I.faults source.new) }
     ensures no_read_fault { result ≢ LeadEnd.ReadFault → I.faults source.new ≡ I.faults source.old }
     ensures write_fault { result ≡ LeadEnd.WriteFault → Rose (P.faults sink.old) (P.faults sink.new) }
@@ -246,6 +248,6 @@ pub fn lead<A: Actor, S: Source + Drop, K: Sink + Drop, O: Opener<S, K> + Drop, 
 {
     scripts_are_playable();
     let end = lead_lines(alloc, by, seats, source, sink);
-    seats.came_as_theirs();
+    seats.wire().came_as_theirs();
     end
 }

@@ -4,6 +4,7 @@ pub mod PipeLaws
 pub mod OpenedLaws
 pub mod SeatCalls
 pub mod SeatLaws
+pub mod PipesGo
 pub mod SettledLaws
 pub mod ClusterLaws
 pub mod LifeLaws

@@ -1,11 +1,11 @@
 -- The ends that came when pipes were opened.
-use Rattle.std.proofs.Common.{ℕ, ◌≡◌, ◌≢◌, ◌+◌, ◌-◌, ◌<◌, ◌≤◌, List, [], ◌∷◌, ◌++◌, Option, Some, None, map, refl, sym, ap, ◌∙◌, subst}
+use Rattle.std.proofs.Common.{ℕ, ◌≡◌, ◌+◌, ◌-◌, ◌<◌, ◌≤◌, List, [], ◌∷◌, ◌++◌, Option, Some, None, map, refl, sym, ap, ◌∙◌, subst}
 use Rattle.std.proofs.Common.{arith, length, length-set, set, get_or, replicate}
 use Rattle.std.specs.List.{AllByRecursion}
 use Rattle.std.specs.Io.KnownBytes.{prepend_known}
 use Rattle.std.proofs.lemmas.List.{get_or-replicate, length-replicate, map-append}
 use Rattle.pipe_seats.specs.Calls.{EndsView, PipeView}
-use Rattle.pipe_seats.specs.Opened.{IsOpening, came_as, OpensAs, CameAsTheirs}
+use Rattle.pipe_seats.specs.Opened.{came_as, OpensAs, CameAsTheirs}
 use Rattle.pipe_seats.specs.Seats.{SeatView, unopened_seat}
 use Rattle.pipe_seats.proofs.PipeLaws.{all_snoc}
 use Rattle.pipe_seats.proofs.SeatLaws.{each_seat}
@@ -56,19 +56,15 @@ fresh_came Came nodes life = record {
 }
 
 -- before the first opening
-pub fresh_seats : (Came : ℕ → EndsView → Type 0) (seats : List SeatView) (nodes life count : ℕ) → seats ≡ replicate nodes (unopened_seat life) → count ≡ nodes
-    → (length seats ≡ count) × CameAsTheirs Came seats
-fresh_seats Came seats nodes life count e n = (
-  ap (λ (ss : List SeatView). length ss) e ∙ length-replicate nodes (unopened_seat life) ∙ sym n,
-  subst (λ (ss : List SeatView). CameAsTheirs Came ss) (sym e) (fresh_came Came nodes life),
-)
+pub fresh_seats : (Came : ℕ → EndsView → Type 0) (seats : List SeatView) (nodes life : ℕ) → seats ≡ replicate nodes (unopened_seat life) → CameAsTheirs Came seats
+fresh_seats Came seats nodes life e = subst (λ (ss : List SeatView). CameAsTheirs Came ss) (sym e) (fresh_came Came nodes life)
 
 -- if all ends at the seat came as those of its node, so do they now
 abbrev StillTheirs : (ℕ → EndsView → Type 0) → ℕ → SeatView → SeatView → Type 0
 StillTheirs Came i s t = AllByRecursion (Came (i + 1)) s.pipe.opened → AllByRecursion (Came (i + 1)) t.pipe.opened
 
 -- one of them was set
-set_came : (Came : ℕ → EndsView → Type 0) (seats : List SeatView) (node : ℕ) (u v : SeatView) → 1 ≤ node → u ≡ get_or seats (node - 1) u → OpensAs (Came node) u.pipe v.pipe
+pub set_came : (Came : ℕ → EndsView → Type 0) (seats : List SeatView) (node : ℕ) (u v : SeatView) → 1 ≤ node → u ≡ get_or seats (node - 1) u → OpensAs (Came node) u.pipe v.pipe
     → CameAsTheirs Came seats → CameAsTheirs Came (set seats (node - 1) v)
 set_came Came seats node u v low there opens h = record { each = λ i d l. all i d (omega (arith, l, length-set seats (node - 1) v)) }
   where
@@ -77,10 +73,3 @@ set_came Came seats node u v low there opens h = record { each = λ i d l. all i
 
     all : (i : ℕ) (d : SeatView) → i < length seats → AllByRecursion (Came (i + 1)) (get_or (set seats (node - 1) v) i d).pipe.opened
     all i d l = each_seat (StillTheirs Came) seats u v (node - 1) there here (λ j s n a. a) i d l (h.each i d l)
-
-pub seats_kept : (Came : ℕ → EndsView → Type 0) (seats new : List SeatView) (nodes count node : ℕ) (u v : SeatView) → 1 ≤ node → u ≡ get_or seats (node - 1) u → new ≡ set seats (node - 1) v
-    → count ≡ nodes → OpensAs (Came node) u.pipe v.pipe → (length seats ≡ nodes) × CameAsTheirs Came seats → (length new ≡ count) × CameAsTheirs Came new
-seats_kept Came seats new nodes count node u v low there same n opens h = (
-  ap (λ (ss : List SeatView). length ss) same ∙ length-set seats (node - 1) v ∙ h.0 ∙ sym n,
-  subst (λ (ss : List SeatView). CameAsTheirs Came ss) (sym same) (set_came Came seats node u v low there opens h.1),
-)

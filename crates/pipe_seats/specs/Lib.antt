@@ -4,7 +4,7 @@ pub mod Calls
 pub mod Seats
 pub mod Opened
 pub mod Piped
-pub mod LaterLaws
+pub mod Wires
 pub mod Settled
 pub mod Cluster
 pub mod Lives

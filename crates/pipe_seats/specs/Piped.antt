@@ -4,16 +4,11 @@ use Rattle.std.specs.Prelude.{◌≡◌, ℕ, ◌+◌, ◌<◌, true, List, [], 
 use Rattle.journal_core.specs.declared.request.Request.{Request}
 use Rattle.journal_core.specs.declared.heard.Heard.{Heard}
 use Rattle.journal_core.specs.declared.heard.Heard.TheVariants.{Answer, Silent}
-use Rattle.journal_history.specs.declared.node_ask.NodeAnswer.{NodeAnswer}
 use Rattle.journal_history.specs.declared.record.Record.{Record}
 use Rattle.journal_history.specs.declared.record.Record.TheVariants.{Call, Late, Operator, Outcome}
 use Rattle.journal_history.specs.declared.record.Told.{Told}
 use Rattle.journal_history.specs.declared.record.Told.TheVariants as told
-use Rattle.play_calls.specs.declared.delivery.Delivery.{Delivery}
-use Rattle.play_calls.specs.Deliveries.{told_of}
-use Rattle.mesh.specs.Marks.{next_number, IsAsMarked}
-use Rattle.mesh.specs.Makers.{heard_of}
-use Rattle.play_calls.specs.Logs.{LogView, new_log, with_line}
+use Rattle.play_calls.specs.Logs.{LogView, new_log}
 use Rattle.pipe_seats.specs.Calls.{PipeView, unopened, IsCalledAt}
 use Rattle.pipe_seats.specs.Seats.{SeatView, unopened_seat, IsAhead}
 
@@ -25,11 +20,6 @@ pub record PipesView : Type 0 where
 -- of so many nodes, in this life of a caller who made no call
 abbrev pub new_seats : ℕ → ℕ → PipesView
 new_seats nodes life = record { seats = replicate nodes (unopened_seat life); log = new_log nodes true }
-
--- what is told of a call that goes so, whatever was heard
-pub record IsTold (delivery : Delivery) (t : Told) : Type 0 where
-  pub answer : NodeAnswer
-  pub is : t ≡ told_of delivery answer
 
 -- what a call did to the pipe of its node, by what was told of it
 abbrev pub WentAs : Request → Told → PipeView → PipeView → Type 0
@@ -50,20 +40,6 @@ WentBy (Call k r t) old new = WentAs r t old new
 WentBy (Late k r) old new = (heard : Heard) × IsCalledAt old new r heard
 WentBy (Operator k ask done) old new = new ≡ old
 WentBy (Outcome text) old new = new ≡ old
-
--- What a line did to the seat of its node, where none is under way then: this it did to the pipe as
--- it was before what was under way was sent.
-pub record WentFrom (line : Record) (old new : SeatView) : Type 0 where
-  pub idle : new.under_way ≡ None
-  pub went : (before : PipeView) → IsAhead old.under_way before old.pipe → WentBy line before new.pipe
-
--- A call from the seat of its node: it was told as the marks say, and listed.
-pub record IsCalledOver (old new : LogView) (before after : SeatView) (node : ℕ) (r : Request) (heard : Heard) : Type 0 where
-  pub told_so : Told
-  pub hears : heard ≡ heard_of told_so
-  pub as_marked : IsAsMarked old.marks node (next_number node old.past) told_so
-  pub listed : new ≡ with_line old (Call node r told_so)
-  pub went : WentFrom (Call node r told_so) before after
 
 -- what a line of the record did to the pipe of this node; a line of another node did nothing to it
 pub record Did (node : ℕ) (line : Record) (old new : PipeView) : Type 0 where

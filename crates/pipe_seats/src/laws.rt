@@ -1,10 +1,11 @@
-//! The laws of a cluster, and of the seats of a caller in it.
+//! The laws of a cluster, and of a caller over pipes in it.
 ghost use Rattle.pipe_seats.specs.Cluster.{ClustersAgree, ClustersAreSafe, FrontsAreMade};
 ghost use Rattle.pipe_seats.specs.Carried.{PipesCarry};
 ghost use Rattle.pipe_seats.specs.Lives.{LivesAreLocal};
 ghost use Rattle.pipe_seats.specs.Piped.{LivesWent};
 ghost use Rattle.pipe_seats.specs.Processes.{ProcessesAreClusters};
 ghost use Rattle.pipe_seats.specs.Tags.{TagsCarry};
+ghost use Rattle.pipe_seats.specs.Wires.{PipesGo};
 
 /// Whatever nodes and name nodes stand at the ends of pipes that keep order and invent nothing,
 /// their lists agree for some plan of losses.
@@ -48,6 +49,12 @@ pub fn tags_carry()
 /// histories and records.
 pub fn processes_are_clusters()
     ensures { ProcessesAreClusters }
+{}
+
+/// What a caller over pipes lists, line by line, is what came to each node's pipe, and behind it came
+/// at most the request that is under way.
+pub fn pipes_go()
+    ensures { PipesGo }
 {}
 
 /// In a life of a caller from its beginning, at whose end no request is left under way, to each

@@ -1,7 +1,8 @@
 use Rattle.std.proofs.Common.{◌≡◌, ◌∙◌, None, Some, arith}
 use Rattle.pipe_lead.specs.Leads.{end_of}
 use Rattle.pipe_lead.proofs.EndLaws.{line_read}
-use Rattle.pipe_lead.proofs.LeadLaws.{lines_next, lines_end, lines_cut, lines_cut_later, lines_cut_rest, lines_out, at_rest}
+use Rattle.pipe_seats.proofs.PipesGo.{pipes_go}
+use Rattle.pipe_lead.proofs.LeadLaws.{lines_next, lines_end, lines_cut, lines_cut_later, lines_cut_rest, lines_out, later_at, at_rest}
 use Rattle.pipe_lead.proofs.leading.lead_lines.Goals as goal
 
 -- there is no next line
@@ -11,6 +12,9 @@ returns-in-Some-clause-led g c =
     lines_end c.next_line.result c.in-Some.end c.next_line.new.self.line (g.A.Actor.seen c.args.by.now) (g.A.Actor.seen c.loop.by) c.args.seats.now c.loop.seats c.loop.reader c.next_line.new.self
     (g.I.Source.left c.args.source.now) (g.I.Source.left c.loop.source) (g.I.Source.left c.next_line.new.source) (g.P.Sink.taken c.args.sink.now) (g.P.Sink.taken c.loop.sink)
     c.loop.counter c.loop.invariant.so_far c.loop.invariant.anew c.next_line.ensures.next is
+
+pub returns-in-Some-clause-later : goal.returns-in-Some-clause-later
+returns-in-Some-clause-later g c = later_at c.in-Some.end c.args.seats.now c.loop.seats c.loop.invariant.so_far.later
 
 pub returns-in-Some-clause-resting : goal.returns-in-Some-clause-resting
 returns-in-Some-clause-resting g c = at_rest c.in-Some.end _ c.loop.invariant.so_far.resting
@@ -64,6 +68,9 @@ pub returns-clause-led : goal.returns-clause-led
 returns-clause-led g c =
     lines_out (g.A.Actor.seen c.args.by.now) (g.A.Actor.seen c.loop.by) c.args.seats.now c.loop.seats c.loop.reader (g.I.Source.left c.args.source.now) (g.I.Source.left c.loop.source)
     (g.P.Sink.taken c.args.sink.now) (g.P.Sink.taken c.loop.sink) c.loop.counter c.loop.invariant.so_far (omega (arith, c.loop-test.false))
+
+pub returns-clause-later : goal.returns-clause-later
+returns-clause-later g c = pipes_go c.args.seats.now c.loop.seats c.loop.invariant.so_far.later
 
 pub returns-clause-resting : goal.returns-clause-resting
 returns-clause-resting g c = c.loop.invariant.so_far.resting

@@ -1,6 +1,6 @@
 use Rattle.std.proofs.Common.{ℕ, ◌≡◌, ◌<◌, None, get_or}
 use Rattle.pipe_seats.specs.Seats.{SeatView}
-use Rattle.pipe_seats.proofs.pipe_seats.are_resting.Given as goal
+use Rattle.pipe_seats.proofs.pipe_wire.are_resting.Given as goal
 
 -- none so far
 abbrev pub invariant-loop-i : goal.invariant-loop-i

@@ -1,6 +1,6 @@
 use Rattle.std.proofs.Common.{ℕ, ◌≡◌, ◌∙◌, ap, arith, replicate}
 use Rattle.pipe_seats.specs.Seats.{unopened_seat}
-use Rattle.pipe_seats.proofs.pipe_seats.unopened_seats.Goals as goal
+use Rattle.pipe_seats.proofs.pipe_wire.unopened_seats.Goals as goal
 
 pub returns : goal.returns
 returns g c =
