@@ -2,15 +2,13 @@
 use Rattle.std.specs.Prelude.{ℕ, ◌≡◌, ◌≤◌, ◌||◌, Bool, false, List, [], ◌∷◌, Option, Some, None, codes, decimal, if◌then◌else◌}
 use Rattle.std.specs.Str.{bytes_eq}
 use Rattle.base_words.specs.WordNumbers.{is_number}
+use Rattle.journal_core.specs.Nodes.{most_nodes, PermittedNodes}
 use Rattle.cli_cluster.specs.declared.cluster_command.ClusterCommand.{ClusterCommand}
 use Rattle.cli_cluster.specs.declared.cluster_command.ClusterCommand.TheVariants as cluster
 
--- the most clients of a node, and the most nodes of a name node
+-- the most clients of a node
 abbrev pub most_clients : ℕ
 most_clients = 64
-
-abbrev pub most_nodes : ℕ
-most_nodes = 15
 
 -- ## Words that ask
 abbrev pub cluster_words : ClusterCommand → List (List ℕ)
@@ -19,7 +17,7 @@ cluster_words (cluster.Lead nodes) = codes "lead" ∷ decimal nodes ∷ []
 
 abbrev pub IsInCluster : ClusterCommand → Type 0
 IsInCluster (cluster.Serve clients) = (1 ≤ clients) × (clients ≤ most_clients)
-IsInCluster (cluster.Lead nodes) = (1 ≤ nodes) × (nodes ≤ most_nodes)
+IsInCluster (cluster.Lead nodes) = PermittedNodes nodes
 
 pub record AsksCluster (words : List (List ℕ)) (command : ClusterCommand) : Type 0 where
   pub are : words ≡ cluster_words command

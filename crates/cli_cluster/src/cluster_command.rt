@@ -4,12 +4,10 @@ ghost use Rattle.cli_cluster.specs.Words.{asks_cluster, cluster_words, cluster_u
 ghost use Rattle.cli_commands.specs.Usage.{bytes_of};
 
 use base_words::number_of;
+use journal_core::MOST_NODES;
 
 /// The most clients of a node.
 const MOST_CLIENTS: u64 = 64;
-
-/// The most nodes of a name node.
-const MOST_NODES: u64 = 15;
 
 /// What the program is asked to do in a cluster.
 #[derive(Clone, Copy)]

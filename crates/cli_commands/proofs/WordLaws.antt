@@ -5,6 +5,7 @@ use Rattle.std.specs.Str.{bytes_eq}
 use Rattle.std.specs.Str.Parse.{digits_value}
 use Rattle.std.proofs.lemmas.Slice.Eq.{bytes_eq-Decides}
 use Rattle.std.proofs.lemmas.Bool.{or_cases}
+use Rattle.journal_core.specs.Nodes.{most_nodes}
 use Rattle.base_words.specs.WordNumbers.{is_number}
 use Rattle.base_words.proofs.NumberLaws.{told_number}
 use Rattle.play_script.specs.Words.{greatest}
@@ -469,15 +470,15 @@ after_gen_is words (list (tool.Back start epoch) name, e) =
 after_gen_is words (list (tool.Oiv of) name, e) = absurd (bytes_other (codes "gen") (codes "oiv") refl (heads (codes "gen") (codes "oiv") words (image_word of ∷ name ∷ []) e.words_are))
 
 -- three words that are numbers in their ranges
-gen_of : (number edits nodes : List ℕ) → is_number 0 greatest number ≡ true → is_number 0 10000 edits ≡ true → is_number 1 15 nodes ≡ true → IsCommand (codes "gen" ∷ number ∷ edits ∷ nodes ∷ [])
+gen_of : (number edits nodes : List ℕ) → is_number 0 greatest number ≡ true → is_number 0 10000 edits ≡ true → is_number 1 most_nodes nodes ≡ true → IsCommand (codes "gen" ∷ number ∷ edits ∷ nodes ∷ [])
 gen_of number edits nodes a b c =
     let n = told_number 0 greatest number a in
     let e = told_number 0 10000 edits b in
-    let k = told_number 1 15 nodes c in (
+    let k = told_number 1 most_nodes nodes c in (
       gen (digits_value 10 number) (digits_value 10 edits) (digits_value 10 nodes),
       record {
         words_are = (λ i. codes "gen" ∷ sym n.1 i ∷ sym e.1 i ∷ sym k.1 i ∷ []);
-        allowed = record { number_fits = n.3; few_edits = e.3; some_nodes = k.2; few_nodes = k.3 };
+        allowed = record { number_fits = n.3; few_edits = e.3; permitted = (k.2, k.3) };
       },
     )
 
@@ -488,8 +489,8 @@ some_number = number_is 0 greatest 0 (omega arith) (omega arith) (omega arith)
 some_edits : is_number 0 10000 (decimal 0) ≡ true
 some_edits = number_is 0 10000 0 (omega arith) (omega arith) (omega arith)
 
-some_nodes : is_number 1 15 (decimal 1) ≡ true
-some_nodes = number_is 1 15 1 (omega arith) (omega arith) (omega arith)
+some_nodes : is_number 1 most_nodes (decimal 1) ≡ true
+some_nodes = number_is 1 most_nodes 1 (omega arith) (omega arith) (omega arith)
 
 -- words of which one is no number of its range
 bad_number : (number : List ℕ) (words : List (List ℕ)) → is_number 0 greatest number ≡ false → IsCommand (codes "gen" ∷ number ∷ words) → ⊥
@@ -505,19 +506,19 @@ bad_edits number edits words n c =
     let is : edits ≡ decimal h.edits = heads edits (decimal h.edits) words (decimal h.nodes ∷ []) rest in
     both_not (is_number 0 10000 edits) n (ap (is_number 0 10000) is ∙ number_is 0 10000 h.edits (omega arith) (omega arith) h.within.few_edits)
 
-bad_nodes : (number edits nodes : List ℕ) (words : List (List ℕ)) → is_number 1 15 nodes ≡ false → IsCommand (codes "gen" ∷ number ∷ edits ∷ nodes ∷ words) → ⊥
+bad_nodes : (number edits nodes : List ℕ) (words : List (List ℕ)) → is_number 1 most_nodes nodes ≡ false → IsCommand (codes "gen" ∷ number ∷ edits ∷ nodes ∷ words) → ⊥
 bad_nodes number edits nodes words n c =
     let h = after_gen_is (number ∷ edits ∷ nodes ∷ words) c in
     let rest = tails number (decimal h.number) (edits ∷ nodes ∷ words) (decimal h.edits ∷ decimal h.nodes ∷ []) h.words_are in
     let more = tails edits (decimal h.edits) (nodes ∷ words) (decimal h.nodes ∷ []) rest in
     let is : nodes ≡ decimal h.nodes = heads nodes (decimal h.nodes) words [] more in
-    both_not (is_number 1 15 nodes) n (ap (is_number 1 15) is ∙ number_is 1 15 h.nodes (omega arith) h.within.some_nodes h.within.few_nodes)
+    both_not (is_number 1 most_nodes nodes) n (ap (is_number 1 most_nodes) is ∙ number_is 1 most_nodes h.nodes (omega arith) h.within.permitted.0 h.within.permitted.1)
 
 -- too few of them, and too many
 not_three : (words : List (List ℕ)) → length words ≢ 3 → IsCommand (codes "gen" ∷ words) → ⊥
 not_three words n c = let h = after_gen_is words c in n (ap length h.words_are)
 
-nodes_first : (number edits nodes : List ℕ) (words : List (List ℕ)) → is_number 0 greatest number ≡ true → is_number 0 10000 edits ≡ true → is_number 1 15 nodes ≡ true
+nodes_first : (number edits nodes : List ℕ) (words : List (List ℕ)) → is_number 0 greatest number ≡ true → is_number 0 10000 edits ≡ true → is_number 1 most_nodes nodes ≡ true
     → MatchOption (after_nodes words) (IsCommand (codes "gen" ∷ number ∷ edits ∷ nodes ∷ words)) (StopAt (codes "gen" ∷ number ∷ edits ∷ nodes ∷ words))
 nodes_first number edits nodes [] a b c = gen_of number edits nodes a b c
 nodes_first number edits nodes (word ∷ words) a b c = record {
@@ -535,9 +536,9 @@ edits_first number edits [] a b = record {
   before = (decimal 1 ∷ [], gen_of number edits (decimal 1) a b some_nodes);
   further = λ l x. absurd (omega (arith, l));
 }
-edits_first number edits (nodes ∷ words) a b = by (is_number 1 15 nodes) refl
+edits_first number edits (nodes ∷ words) a b = by (is_number 1 most_nodes nodes) refl
   where
-    by : (t : Bool) → is_number 1 15 nodes ≡ t → MatchOption (behind_edits (nodes ∷ words)) (IsCommand (codes "gen" ∷ number ∷ edits ∷ nodes ∷ words))
+    by : (t : Bool) → is_number 1 most_nodes nodes ≡ t → MatchOption (behind_edits (nodes ∷ words)) (IsCommand (codes "gen" ∷ number ∷ edits ∷ nodes ∷ words))
         (StopAt (codes "gen" ∷ number ∷ edits ∷ nodes ∷ words))
     by true c = rw c (nodes_first number edits nodes words a b c)
     by false c = rw c (let stop : StopAt (codes "gen" ∷ number ∷ edits ∷ nodes ∷ words) 3 = record {
@@ -663,7 +664,7 @@ asked_back judge h = refl
 asked_back (gen number edits nodes) h =
     let a : number ≤ 4611686018427387904 = h.number_fits in
     let b : edits ≤ 10000 = h.few_edits in
-    let c : nodes ≤ 15 = h.few_nodes in
+    let c : nodes ≤ most_nodes = h.permitted.1 in
     let n = number_again number (omega (arith, a)) in
     let e = number_again edits (omega (arith, b)) in
     let k = number_again nodes (omega (arith, c)) in

@@ -3,6 +3,7 @@ use Rattle.std.specs.Prelude.{ℕ, List, [], ◌∷◌, Option, Some, None, Stri
 use Rattle.std.specs.Str.{bytes_eq}
 use Rattle.std.specs.String.{string_bytes}
 use Rattle.base_words.specs.WordNumbers.{is_number}
+use Rattle.journal_core.specs.Nodes.{most_nodes}
 use Rattle.play_script.specs.Words.{greatest}
 
 -- the bytes of each word
@@ -68,7 +69,7 @@ after_nodes (word ∷ words) = Some 4
 
 abbrev pub behind_edits : List (List ℕ) → Option ℕ
 behind_edits [] = Some 3
-behind_edits (nodes ∷ words) = if is_number 1 15 nodes then after_nodes words else Some 3
+behind_edits (nodes ∷ words) = if is_number 1 most_nodes nodes then after_nodes words else Some 3
 
 abbrev pub after_number : List (List ℕ) → Option ℕ
 after_number [] = Some 2

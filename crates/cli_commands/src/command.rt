@@ -6,15 +6,13 @@ ghost use Rattle.cli_commands.specs.Usage.{bytes_of, is_alone, is_oev, is_oiv, a
 use crate::tool::Tool;
 use crate::tool_words::{image_tool_of, segment_tool_of};
 use base_words::number_of;
+use journal_core::permitted_nodes;
 
 /// The greatest number of a command.
 const GREATEST: u64 = 4_611_686_018_427_387_904;
 
 /// The most edits of a generated script.
 const MOST_EDITS: u64 = 10_000;
-
-/// The most nodes.
-const MOST_NODES: u64 = 15;
 
 /// What the program is asked to do.
 #[derive(Clone, Copy)]
@@ -184,7 +182,7 @@ fn read_gen(words: &[String]) -> Result<Command<'_>, u64>
     let Some((third, others)) = others.split_first() else {
         return Err(3);
     };
-    let Some(nodes) = number_of(third.as_bytes(), 1, MOST_NODES) else {
+    let Some(nodes) = permitted_nodes(third.as_bytes()) else {
         return Err(3);
     };
     if !others.is_empty() {

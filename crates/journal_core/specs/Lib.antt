@@ -12,3 +12,4 @@ pub mod Stops
 pub mod Cuts
 pub mod Laws
 pub mod Peers
+pub mod Nodes

@@ -58,7 +58,7 @@ lines_playable said (line.Arm i calls (stop.Effects keep) ∷ lines) h = (h.0.se
 lines_playable said (line.Arm i calls (stop.DiskCalls after cut) ∷ lines) h = (h.0.sense.0.0, h.0.sense.0.1, tt, lines_playable said lines h.1)
 
 pub playable : (s : ScriptView) → IsScript s → IsPlayable s
-playable s h = record { nodes = omega (arith, h.some); lines = lines_playable (nothing_said s.named s.nodes) s.lines h.lines }
+playable s h = record { nodes = h.permitted.0; lines = lines_playable (nothing_said s.named s.nodes) s.lines h.lines }
 
 -- ## Numbers
 lines_fit : (said : SaidView) (lines : List ScriptLine) → AreLines said lines → AreInRange said.nodes lines

@@ -193,7 +193,7 @@ script_said number (Ended text ∷ ls) e =
             record {
               whole = rw w rest.1.whole;
               says = telling_loud text ls q ∙ ap (λ t. t ∷ lines_that_say ls) told.spelled ∙ ap (λ ts. first_line first.0.named first.0.nodes ∷ ts) rest.1.says;
-              script = record { some = told.some; most = told.most; lines = rest.1.lines };
+              script = record { permitted = told.permitted; lines = rest.1.lines };
             },
           )
     ]

@@ -5,6 +5,7 @@ use Rattle.std.specs.Str.{bytes_eq}
 use Rattle.std.specs.Fmt.{decimal, digits}
 use Rattle.std.proofs.lemmas.Fmt.{decimal_digit}
 use Rattle.std.proofs.lemmas.Slice.Eq.{bytes_eq-Decides}
+use Rattle.journal_core.specs.Nodes.{most_nodes, PermittedNodes}
 use Rattle.play_script.specs.Views.{SaidView}
 use Rattle.play_script.specs.Grammar.{first_line, nothing_said}
 use Rattle.play_script.specs.Rules.{nodes_of, said_first_of, said_first}
@@ -26,15 +27,15 @@ decimal_more (suc (suc (suc (suc zero)))) h = refl
 decimal_more (suc (suc (suc (suc (suc zero))))) h = refl
 decimal_more (suc (suc (suc (suc (suc (suc k)))))) h = absurd (omega arith)
 
-decimal_high : (nodes : ℕ) → 10 ≤ nodes → nodes < 16 → decimal nodes ≡ 49 ∷ (48 + (nodes - 10)) ∷ []
+decimal_high : (nodes : ℕ) → 10 ≤ nodes → nodes ≤ most_nodes → decimal nodes ≡ 49 ∷ (48 + (nodes - 10)) ∷ []
 decimal_high nodes g l =
     let k : nodes ≡ 10 + (nodes - 10) = omega arith in
     ap decimal k ∙ decimal_more (nodes - 10) (omega arith)
 
-pub raw_high : (line : List ℕ) (nodes : ℕ) → 10 ≤ nodes → nodes < 16 → bytes_eq line (first_line false nodes) ≡ bytes_eq line (114 ∷ 97 ∷ 119 ∷ 32 ∷ 49 ∷ (48 + (nodes - 10)) ∷ [])
+pub raw_high : (line : List ℕ) (nodes : ℕ) → 10 ≤ nodes → nodes ≤ most_nodes → bytes_eq line (first_line false nodes) ≡ bytes_eq line (114 ∷ 97 ∷ 119 ∷ 32 ∷ 49 ∷ (48 + (nodes - 10)) ∷ [])
 raw_high line nodes g l = ap (λ d. bytes_eq line (codes "raw " ++ d)) (decimal_high nodes g l)
 
-pub names_high : (line : List ℕ) (nodes : ℕ) → 10 ≤ nodes → nodes < 16 → bytes_eq line (first_line true nodes) ≡ bytes_eq line (110 ∷ 97 ∷ 109 ∷ 101 ∷ 115 ∷ 32 ∷ 49 ∷ (48 + (nodes - 10)) ∷ [])
+pub names_high : (line : List ℕ) (nodes : ℕ) → 10 ≤ nodes → nodes ≤ most_nodes → bytes_eq line (first_line true nodes) ≡ bytes_eq line (110 ∷ 97 ∷ 109 ∷ 101 ∷ 115 ∷ 32 ∷ 49 ∷ (48 + (nodes - 10)) ∷ [])
 names_high line nodes g l = ap (λ d. bytes_eq line (codes "names " ++ d)) (decimal_high nodes g l)
 
 pub ruleset first_lines = (raw_low, names_low, raw_high, names_high)
@@ -81,22 +82,23 @@ find_in named line a zero x e = cc
 find_in named line a (suc n) x e = find_here named line a n x (is_told named line a) refl (find_in named line (a + 1) n x) e
 
 -- a line that tells that number
-pub told_is : (named : Bool) (line : List ℕ) (nodes : ℕ) → nodes_of named line ≡ Some nodes → (bytes_eq line (first_line named nodes) ≡ true) × (1 ≤ nodes) × (nodes < 16)
+pub told_is : (named : Bool) (line : List ℕ) (nodes : ℕ) → nodes_of named line ≡ Some nodes → (bytes_eq line (first_line named nodes) ≡ true) × (1 ≤ nodes) × (nodes ≤ most_nodes)
 unfolding nodes_of
-told_is named line nodes e = find_in named line 1 15 nodes e
+told_is named line nodes e =
+    let t : (is_told named line nodes ≡ true) × (1 ≤ nodes) × (nodes < 16) = find_in named line 1 most_nodes nodes e in
+    (t.0, t.1, omega (arith, t.2))
 
 -- ## What it says
 -- the first line of such a script with that number of nodes
 pub record FirstTells (line : List ℕ) (said : SaidView) : Type 0 where
   pub spelled : line ≡ first_line said.named said.nodes
   pub begins : said ≡ nothing_said said.named said.nodes
-  pub some : 0 < said.nodes
-  pub most : said.nodes < 16
+  pub permitted : PermittedNodes said.nodes
 
 tells_nodes : (named : Bool) (line : List ℕ) (nodes : ℕ) → nodes_of named line ≡ Some nodes → FirstTells line (nothing_said named nodes)
 tells_nodes named line nodes e =
     let t = told_is named line nodes e in
-    record { spelled = (bytes_eq-Decides line (first_line named nodes)).0 t.0; begins = refl; some = t.1; most = t.2 }
+    record { spelled = (bytes_eq-Decides line (first_line named nodes)).0 t.0; begins = refl; permitted = (t.1, t.2) }
 
 pub first_tells : (line : List ℕ) (said : SaidView) → said_first line ≡ Some said → FirstTells line said
 first_tells line said e = by (nodes_of false line) refl (nodes_of true line) refl e

@@ -20,3 +20,4 @@ pub mod NamingLaws
 pub mod MadeEditLaws
 pub mod MadeLineLaws
 pub mod MadeScriptLaws
+pub mod SetLaws

@@ -3,6 +3,7 @@ use Rattle.std.proofs.Common.{ℕ, zero, suc, ◌≡◌, ◌<◌, ◌≤◌, ◌
 use Rattle.std.proofs.Common.{false, cond, refl, sym, ap, subst, arith, ◌∙◌, append_assoc, append-nil, codes, decimal, lit<, lit≤}
 use Rattle.std.specs.List.{AllByRecursion}
 use Rattle.std.proofs.Math.Nat.{mod-lt, div-le_of_le-mul}
+use Rattle.journal_core.specs.Nodes.{most_nodes}
 use Rattle.edit_ops.specs.Records.{EditView}
 use Rattle.edit_codec.specs.EditTexts.{text_of}
 use Rattle.play_script.specs.declared.script_line.ScriptLine.{ScriptLine}
@@ -39,7 +40,7 @@ fits said line words e h few =
     let is : length (line_text said line) ≡ length (joined words) = ap (λ ws. length (joined ws)) e in
     omega (arith, short, is, few)
 
-number_fits : (n : ℕ) → n ≤ 15 → IsShortWord (decimal n)
+number_fits : (n : ℕ) → n ≤ most_nodes → IsShortWord (decimal n)
 number_fits n l = let short : length (decimal n) ≤ 5 = number_short n (omega (arith, l)) in omega (arith, short)
 
 -- ## Lines after the declarations
@@ -68,7 +69,7 @@ roll_may nodes (suc (suc n)) l = absurd (omega (arith, l))
 tail_may : (nodes : ℕ) → MayFollow nodes (Tail 2)
 tail_may nodes = record { may = record { here = refl; sense = lit< tt; fits = lit≤ tt }; same = refl }
 
-drop_may : (nodes writer node : ℕ) → writer ≤ 1 → 1 ≤ node → node ≤ nodes → nodes ≤ 15 → MayFollow nodes (Drop writer node 1)
+drop_may : (nodes writer node : ℕ) → writer ≤ 1 → 1 ≤ node → node ≤ nodes → nodes ≤ most_nodes → MayFollow nodes (Drop writer node 1)
 drop_may nodes zero node w a b m =
     record {
       may = record {
@@ -91,7 +92,7 @@ drop_may nodes (suc zero) node w a b m =
     }
 drop_may nodes (suc (suc n)) node w a b m = absurd (omega (arith, w))
 
-kill_may : (nodes node : ℕ) → 1 ≤ node → node ≤ nodes → nodes ≤ 15 → MayFollow nodes (Kill node)
+kill_may : (nodes node : ℕ) → 1 ≤ node → node ≤ nodes → nodes ≤ most_nodes → MayFollow nodes (Kill node)
 kill_may nodes node a b m = record {
   may = record {
     here = refl;
@@ -101,7 +102,7 @@ kill_may nodes node a b m = record {
   same = refl;
 }
 
-restart_may : (nodes node : ℕ) → 1 ≤ node → node ≤ nodes → nodes ≤ 15 → MayFollow nodes (Restart node)
+restart_may : (nodes node : ℕ) → 1 ≤ node → node ≤ nodes → nodes ≤ most_nodes → MayFollow nodes (Restart node)
 restart_may nodes node a b m = record {
   may = record {
     here = refl;
@@ -158,7 +159,7 @@ after_is_short count l = by (count % 100 == 0)
 drawn_below : (nodes state : ℕ) → 1 ≤ nodes → drawn nodes state < nodes
 drawn_below nodes state l = mod-lt (state / 2 ^ 33) l
 
-module _ (nodes : ℕ) (some : 1 ≤ nodes) (most : nodes ≤ 15) where
+module _ (nodes : ℕ) (some : 1 ≤ nodes) (most : nodes ≤ most_nodes) where
   node_is : (m : Making) → (1 ≤ node_drawn nodes m) × (node_drawn nodes m ≤ nodes)
   node_is m = let below : drawn nodes (next_state m.state) < nodes = drawn_below nodes (next_state m.state) some in (omega arith, omega (arith, below))
 
@@ -225,13 +226,11 @@ last_may nodes = ((tail_may nodes).may, tt)
 pub is_script : (number edits nodes : ℕ) → IsWithin number edits nodes → IsScript (generated number edits nodes)
 is_script number edits nodes h =
     let few : edits ≤ 10000 = h.few_edits in
-    let most : nodes ≤ 15 = h.few_nodes in
     record {
-      some = h.some_nodes;
-      most = omega (arith, most);
+      permitted = h.permitted;
       lines = first_may nodes (Takeover 0 ∷ edit_lines nodes edits 0 (first_making number) ++ Tail 2 ∷ [])
           (lines_on nodes (Takeover 0) (edit_lines nodes edits 0 (first_making number) ++ Tail 2 ∷ []) (takeover_may nodes 0 (omega arith))
-          (edit_lines_may nodes h.some_nodes h.few_nodes edits 0 (first_making number) (Tail 2 ∷ []) (omega (arith, few)) (omega arith) (last_may nodes)));
+          (edit_lines_may nodes h.permitted.0 h.permitted.1 edits 0 (first_making number) (Tail 2 ∷ []) (omega (arith, few)) (omega arith) (last_may nodes)));
     }
 
 pub script_is : (number edits nodes : ℕ) (s : ScriptView) → IsWithin number edits nodes → s ≡ generated number edits nodes → IsScript s

@@ -56,7 +56,7 @@ place_late p [] y e t = rw t refl
 place_late p (x ∷ xs) y e t =
     late_by (not (p x)) (position_or_len p (xs ++ y ∷ [])) (position_or_len p xs) (length xs) (e ∙ length_cons x xs) (λ m. place_late p xs y m t) ∙ sym (length_cons x xs)
 
-lt_is : (m n : ℕ) → m < n → nat_lt m n ≡ true
+pub lt_is : (m n : ℕ) → m < n → nat_lt m n ≡ true
 lt_is m n l = elim (leb_tells (suc m) n) [ inl p ↦ p.0 | inr p ↦ absurd (omega (arith, p.1)) ]
 
 actor_is : (names : List (List ℕ)) (name : List ℕ) (actor : ℕ) → position_or_len (λ n. bytes_eq n name) names ≡ actor → actor < length names → actor_of names name ≡ Some actor

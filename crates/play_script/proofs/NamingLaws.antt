@@ -1,7 +1,8 @@
 -- Where a script without names begins.
-use Rattle.std.proofs.Common.{◌≡◌, ℕ, ◌+◌, ◌<◌, List, [], ◌∷◌, ◌++◌, Bool, true, false, ◌&&◌, Option, Some, None, if◌then◌else◌, refl, sym, ap, ◌∙◌, arith}
+use Rattle.std.proofs.Common.{◌≡◌, ◌≤◌, ℕ, ◌+◌, ◌<◌, List, [], ◌∷◌, ◌++◌, Bool, true, false, ◌&&◌, Option, Some, None, if◌then◌else◌, refl, sym, ap, ◌∙◌, arith}
 use Rattle.std.specs.Prelude.{is_some}
 use Rattle.std.specs.List.{list_all}
+use Rattle.journal_core.specs.Nodes.{most_nodes}
 use Rattle.play_script.specs.Scripts.{ScriptView}
 use Rattle.play_script.specs.Views.{SaidView}
 use Rattle.play_script.specs.Grammar.{IsScript, IsScriptText, is_silent, first_line, nothing_said, script_lines, lines_that_say}
@@ -48,7 +49,7 @@ named_in : Option SaidView → Bool
 named_in None = true
 named_in (Some v) = v.named
 
-raw_told : (n : ℕ) → 0 < n → n < 16 → is_some (nodes_of false (first_line false n)) ≡ true
+raw_told : (n : ℕ) → 0 < n → n ≤ most_nodes → is_some (nodes_of false (first_line false n)) ≡ true
 unfolding named_in
 raw_told n some most = by (nodes_of false (first_line false n)) (nodes_of true (first_line false n)) (told_all false n some most)
   where
@@ -73,7 +74,7 @@ named_lines (Ended line ∷ lines) number s whole says is none = by (λ a b d. n
         let says_it : line ∷ lines_that_say lines ≡ script_lines s = sym (ap (λ (b : Bool). if b then lines_that_say lines else line ∷ lines_that_say lines) told) ∙ says in
         let first : line ≡ first_line s.named s.nodes = cc says_it in
         let raw : is_some (nodes_of false line) ≡ true =
-        ap (λ (l : List ℕ). is_some (nodes_of false l)) (first ∙ ap (λ (b : Bool). first_line b s.nodes) e) ∙ raw_told s.nodes is.some is.most in
+        ap (λ (l : List ℕ). is_some (nodes_of false l)) (first ∙ ap (λ (b : Bool). first_line b s.nodes) e) ∙ raw_told s.nodes is.permitted.0 is.permitted.1 in
         let found : raw_from number (Ended line ∷ lines) ≡ Some number = rw (good, told, raw) refl in
         let wrong : None ≡ Some number = sym none ∙ found in
         absurd (cc wrong)
@@ -91,7 +92,7 @@ pub others_have_names : OthersHaveNames
 others_have_names bytes s is none = named_lines (lines_of bytes) 1 s is.whole is.says is.script none
 
 -- ## A script with names breaks no rule of such scripts
-raw_never : (n : ℕ) → 0 < n → n < 16 → is_some (nodes_of false (first_line true n)) ≡ false
+raw_never : (n : ℕ) → 0 < n → n ≤ most_nodes → is_some (nodes_of false (first_line true n)) ≡ false
 unfolding named_in
 raw_never n some most = by (nodes_of false (first_line true n)) (nodes_of true (first_line true n)) (told_all true n some most)
   where
@@ -113,7 +114,7 @@ raw_in (Ended line ∷ lines) number s says is named = by (λ e. raw_in lines (n
         let says_it : line ∷ lines_that_say lines ≡ script_lines s = sym (ap (λ (b : Bool). if b then lines_that_say lines else line ∷ lines_that_say lines) q) ∙ says in
         let first : line ≡ first_line s.named s.nodes = cc says_it in
         let never : is_some (nodes_of false line) ≡ false =
-        ap (λ (l : List ℕ). is_some (nodes_of false l)) (first ∙ ap (λ (b : Bool). first_line b s.nodes) named) ∙ raw_never s.nodes is.some is.most in
+        ap (λ (l : List ℕ). is_some (nodes_of false l)) (first ∙ ap (λ (b : Bool). first_line b s.nodes) named) ∙ raw_never s.nodes is.permitted.0 is.permitted.1 in
         rw (g, q, never) refl
 
 pub names_break_no_rule : (bytes : List ℕ) (s : ScriptView) → ScriptBreaksNoRule → IsScriptText bytes s → s.named ≡ true → names_fault_of bytes ≡ None

@@ -4,6 +4,7 @@ use Rattle.std.specs.List.{list_all, AllByRecursion, flat_map}
 use Rattle.std.specs.Fmt.{digits}
 use Rattle.std.proofs.lemmas.Bool.Decides.{nat_tests}
 use Rattle.std.proofs.lemmas.Bool.{and_parts}
+use Rattle.journal_core.specs.Nodes.{most_nodes}
 use Rattle.play_script.specs.declared.script_line.ScriptLine.{ScriptLine}
 use Rattle.play_script.specs.Scripts.{ScriptView}
 use Rattle.play_script.specs.Views.{SaidView}
@@ -69,14 +70,14 @@ line_printed said line k f m =
     }
 
 few_after : (said : SaidView) (line : ScriptLine) → AreFew said → AreFew (said_after said line)
-few_after said line f = subst (λ (n : ℕ). n < 16) (sym (nodes_after said line)) f
+few_after said line f = subst (λ (n : ℕ). n ≤ most_nodes) (sym (nodes_after said line)) f
 
 lines_printed : (said : SaidView) (lines : List ScriptLine) → AreKnown said.names → AreFew said → AreLines said lines → AllByRecursion IsPrinted (texts_of said lines)
 unfolding texts_of AreLines
 lines_printed said [] k f a = tt
 lines_printed said (line ∷ lines) k f a = (line_printed said line k f a.0, lines_printed (said_after said line) lines (known_after said line k a.0.sense) (few_after said line f) a.1)
 
-first_printed : (named : Bool) (nodes : ℕ) → 0 < nodes → nodes < 16 → IsPrinted (first_line named nodes)
+first_printed : (named : Bool) (nodes : ℕ) → 0 < nodes → nodes ≤ most_nodes → IsPrinted (first_line named nodes)
 unfolding is_line digits
 first_printed named zero s l = absurd (omega arith)
 first_printed true (suc zero) s l = record { whole = refl; loud = refl }
@@ -113,7 +114,7 @@ first_printed named (suc (suc (suc (suc (suc (suc (suc (suc (suc (suc (suc (suc 
 
 pub has_its_text : (s : ScriptView) → IsScript s → IsScriptText (script_text s) s
 has_its_text s h =
-    let printed : AllByRecursion IsPrinted (script_lines s) = (first_printed s.named s.nodes h.some h.most, lines_printed (nothing_said s.named s.nodes) s.lines none_known h.most h.lines) in
+    let printed : AllByRecursion IsPrinted (script_lines s) = (first_printed s.named s.nodes h.permitted.0 h.permitted.1, lines_printed (nothing_said s.named s.nodes) s.lines none_known h.permitted.1 h.lines) in
     let again : lines_of (script_text s) ≡ map Ended (script_lines s) = lines_again (script_lines s) printed in
     record {
       whole = ap (list_all is_whole) again ∙ all_whole (script_lines s) printed;

@@ -5,6 +5,7 @@ use Rattle.std.specs.Prelude.{Result, Ok, Err, IfOk, IfSome, IfNone, OnErr, is_n
 use Rattle.std.specs.List.{list_all}
 use Rattle.std.proofs.lemmas.Bool.{and_parts}
 use Rattle.std.proofs.lemmas.Bool.Decides.{nat_tests}
+use Rattle.journal_core.specs.Nodes.{PermittedNodes}
 use Rattle.play_script.specs.declared.script_line.ScriptLine.{ScriptLine}
 use Rattle.play_script.specs.Scripts.{ScriptView}
 use Rattle.play_script.specs.Views.{SaidView, ReadingView}
@@ -79,7 +80,7 @@ first_broken r text n w q e = ap (λ o. rule_of o text) n ∙ first_rule text No
 
 said_nothing : (v : SaidView) (text : List ℕ) → FirstTells text v → AreSaidBy v []
 unfolding all_said AreLines
-said_nothing v text t = record { some = t.some; most = t.most; said = t.begins; lines = tt }
+said_nothing v text t = record { permitted = t.permitted; said = t.begins; lines = tt }
 
 texts_nothing : (v : SaidView) → texts_of v [] ≡ []
 unfolding texts_of
@@ -138,8 +139,7 @@ gone_on said lines text line s w q e =
       told = rw q ((λ i. first_line (named i) (nodes i) ∷ texts_of (begins i) (lines ++ line ∷ [])) ∙ ap (λ ts. first_line said.named said.nodes ∷ ts) more);
       sound =
           record {
-            some = subst (λ n. 0 < n) (sym nodes) s.some;
-            most = subst (λ n. n < 16) (sym nodes) s.most;
+            permitted = subst (λ n. PermittedNodes n) (sym nodes) s.permitted;
             said = ap (λ v. said_after v line) s.said ∙ sym (said_push first lines line) ∙ ap (λ (v : SaidView). all_said v (lines ++ line ∷ [])) (sym begins);
             lines = subst (λ (v : SaidView). AreLines v (lines ++ line ∷ [])) (sym begins) (lines_push first lines line s.lines (subst (λ (v : SaidView). MaySay v line) s.said may));
           };
@@ -280,7 +280,7 @@ all_told None lines s e h = cc
 all_told (Some v) lines s e h =
     let t : ScriptView = record { named = v.named; nodes = v.nodes; lines = lines } in
     let same : t ≡ s = cc in
-    subst (λ (x : ScriptView). (told_if (Some v) lines ≡ script_lines x) × IsScript x) same (refl, record { some = h.some; most = h.most; lines = h.lines })
+    subst (λ (x : ScriptView). (told_if (Some v) lines ≡ script_lines x) × IsScript x) same (refl, record { permitted = h.permitted; lines = h.lines })
 
 pub after_all : (bytes : List ℕ) (count : ℕ) (r : ReadingView) (rest : List ℕ) (s : ScriptView) → IsBehind bytes count r rest → rest ≡ [] → Some s ≡ script_of r.said r.lines → IsScriptText bytes s
 after_all bytes count r rest s b e n =

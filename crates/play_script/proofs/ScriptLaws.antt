@@ -1,8 +1,9 @@
 -- A script's text breaks no rule, and is of one script.
-use Rattle.std.proofs.Common.{ℕ, ◌≡◌, ◌<◌, ◌+◌, List, [], ◌∷◌, Option, Some, None, Bool, true, false, ◌⊎◌, inl, inr, refl, sym, ap, arith, ◌∙◌, subst, zero, suc}
+use Rattle.std.proofs.Common.{ℕ, ◌≡◌, ◌≤◌, ◌<◌, ◌+◌, List, [], ◌∷◌, Option, Some, None, Bool, true, false, ◌⊎◌, inl, inr, refl, sym, ap, arith, ◌∙◌, subst, zero, suc}
 use Rattle.std.specs.List.{list_all}
 use Rattle.std.specs.Fmt.{digits}
 use Rattle.std.proofs.lemmas.Bool.{false≢true, and_parts}
+use Rattle.journal_core.specs.Nodes.{most_nodes}
 use Rattle.play_script.specs.declared.script_line.ScriptLine.{ScriptLine}
 use Rattle.play_script.specs.Scripts.{ScriptView}
 use Rattle.play_script.specs.Views.{SaidView}
@@ -18,7 +19,7 @@ use Rattle.play_script.proofs.PrintLaws.{texts_first, lines_first}
 use Rattle.play_script.proofs.FaultLaws.{telling_loud, telling_silent}
 
 -- ## No rule is broken
-pub told_all : (named : Bool) (nodes : ℕ) → 0 < nodes → nodes < 16 → said_first (first_line named nodes) ≡ Some (nothing_said named nodes)
+pub told_all : (named : Bool) (nodes : ℕ) → 0 < nodes → nodes ≤ most_nodes → said_first (first_line named nodes) ≡ Some (nothing_said named nodes)
 unfolding nodes_of digits
 told_all named zero s l = absurd (omega arith)
 told_all true (suc zero) s l = refl
@@ -83,7 +84,7 @@ cons_nil : (x : List ℕ) (xs : List (List ℕ)) → x ∷ xs ≡ [] → ⊥
 cons_nil x xs e = cc
 
 few_after : (said : SaidView) (line : ScriptLine) → AreFew said → AreFew (said_after said line)
-few_after said line f = subst (λ (n : ℕ). n < 16) (sym (nodes_after said line)) f
+few_after said line f = subst (λ (n : ℕ). n ≤ most_nodes) (sym (nodes_after said line)) f
 
 pub no_fault : (number : ℕ) (said : SaidView) (ls : List Line) (lines : List ScriptLine) → AreKnown said.names → AreFew said
     → list_all is_whole ls ≡ true → lines_that_say ls ≡ texts_of said lines → AreLines said lines
@@ -119,7 +120,7 @@ first_said : (text : List ℕ) (said : SaidView) → said_first text ≡ Some sa
 unfolding rule_said
 first_said text said e = rw e refl
 
-no_fault_yet : (number : ℕ) (ls : List Line) (named : Bool) (nodes : ℕ) (lines : List ScriptLine) → 0 < nodes → nodes < 16 → list_all is_whole ls ≡ true
+no_fault_yet : (number : ℕ) (ls : List Line) (named : Bool) (nodes : ℕ) (lines : List ScriptLine) → 0 < nodes → nodes ≤ most_nodes → list_all is_whole ls ≡ true
     → lines_that_say ls ≡ first_line named nodes ∷ texts_of (nothing_said named nodes) lines → AreLines (nothing_said named nodes) lines → first_fault number None ls ≡ None
 no_fault_yet number [] named nodes lines s l w t a = cc
 no_fault_yet number (Open text ∷ ls) named nodes lines s l w t a = absurd (false≢true w)
@@ -141,7 +142,7 @@ no_fault_yet number (Ended text ∷ ls) named nodes lines s l w t a =
 
 pub breaks_no_rule : (bytes : List ℕ) (s : ScriptView) → IsScriptText bytes s → fault_of bytes ≡ None
 unfolding fault_of
-breaks_no_rule bytes s h = no_fault_yet 1 (lines_of bytes) s.named s.nodes s.lines h.script.some h.script.most h.whole h.says h.script.lines
+breaks_no_rule bytes s h = no_fault_yet 1 (lines_of bytes) s.named s.nodes s.lines h.script.permitted.0 h.script.permitted.1 h.whole h.says h.script.lines
 
 -- ## One script
 pub same_lines_of : (said : SaidView) (xs ys : List ScriptLine) → AreKnown said.names → AreFew said → AreLines said xs → AreLines said ys → texts_of said xs ≡ texts_of said ys → xs ≡ ys
@@ -171,11 +172,11 @@ one_script bytes s t h k =
     let first : first_line s.named s.nodes ≡ first_line t.named t.nodes = heads (first_line s.named s.nodes) (first_line t.named t.nodes) _ _ both_are in
     let rest : texts_of (nothing_said s.named s.nodes) s.lines ≡ texts_of (nothing_said t.named t.nodes) t.lines = tails (first_line s.named s.nodes) (first_line t.named t.nodes) _ _ both_are in
     let told : Some (nothing_said s.named s.nodes) ≡ Some (nothing_said t.named t.nodes) =
-    sym (told_all s.named s.nodes h.script.some h.script.most) ∙ ap said_first first ∙ told_all t.named t.nodes k.script.some k.script.most in
+    sym (told_all s.named s.nodes h.script.permitted.0 h.script.permitted.1) ∙ ap said_first first ∙ told_all t.named t.nodes k.script.permitted.0 k.script.permitted.1 in
     let begins : nothing_said s.named s.nodes ≡ nothing_said t.named t.nodes = some_same (nothing_said s.named s.nodes) (nothing_said t.named t.nodes) told in
     let again : texts_of (nothing_said s.named s.nodes) s.lines ≡ texts_of (nothing_said s.named s.nodes) t.lines = rest ∙ ap (λ (v : SaidView). texts_of v t.lines) (sym begins) in
     let others : AreLines (nothing_said s.named s.nodes) t.lines = subst (λ (v : SaidView). AreLines v t.lines) (sym begins) k.script.lines in
-    let lines : s.lines ≡ t.lines = same_lines_of (nothing_said s.named s.nodes) s.lines t.lines none_known h.script.most h.script.lines others again in
+    let lines : s.lines ≡ t.lines = same_lines_of (nothing_said s.named s.nodes) s.lines t.lines none_known h.script.permitted.1 h.script.lines others again in
     (λ i. record { named = (begins i).named; nodes = (begins i).nodes; lines = lines i })
   where
     heads : (u v : List ℕ) (us vs : List (List ℕ)) → u ∷ us ≡ v ∷ vs → u ≡ v

@@ -2,6 +2,7 @@
 use Rattle.std.proofs.Common.{ℕ, ◌≡◌, ◌≢◌, ◌<◌, ◌≤◌, List, [], ◌∷◌, ◌++◌, length, Some, None, Bool, true, false, inl, inr, refl, ap, arith, ◌∙◌, nat_le, map, codes, decimal}
 use Rattle.std.specs.List.{list_all, list_any, AllByRecursion}
 use Rattle.std.proofs.lemmas.Bool.Decides.{nat_tests, leb_tells}
+use Rattle.journal_core.specs.Nodes.{most_nodes}
 use Rattle.base_words.specs.Hex.{hex_text}
 use Rattle.journal_core.specs.declared.cut.Cut.{Cut}
 use Rattle.journal_core.specs.declared.cut.Cut.TheVariants as choice
@@ -87,7 +88,7 @@ actor_full names actor k l = name_is_word (name_at names actor) (name_good names
 
 -- the number of a node is no greater than any other
 abbrev pub AreFew : SaidView → Type 0
-AreFew said = said.nodes < 16
+AreFew said = said.nodes ≤ most_nodes
 
 node_full : (said : SaidView) (i : ℕ) → AreFew said → IsNode said i → IsFull (decimal i)
 node_full said i f n = number_is_word i (omega (arith, n.1))

@@ -1,6 +1,7 @@
 -- The script that a number gives: two writers that log directories and files, takeovers, losses and
 -- restarts between, and a standby that tails at last.
 use Rattle.std.specs.Prelude.{ℕ, zero, suc, ◌+◌, ◌/◌, ◌%◌, ◌≤◌, ◌==◌, nat_lt, true, List, [], ◌∷◌, ◌++◌, None, codes, decimal, if◌then◌else◌}
+use Rattle.journal_core.specs.Nodes.{PermittedNodes}
 use Rattle.edit_ops.specs.Records.{EditView}
 use Rattle.edit_ops.specs.declared.op.Op.TheVariants.{Mkdir, Add}
 use Rattle.play_script.specs.Scripts.{ScriptView}
@@ -11,12 +12,12 @@ use Rattle.play_script.specs.declared.chance.Chance.{Chance}
 use Rattle.play_script.specs.declared.chance.Chance.TheVariants as chance
 use Rattle.play_script.specs.Draws.{next_state, drawn}
 
--- what may be asked for: a number up to 2 ^ 62, up to 10,000 edits, and 1 to 15 nodes
+-- what may be asked for: a number up to 2 ^ 62, up to 10,000 edits, and a permitted
+-- number of nodes
 pub record IsWithin (number edits nodes : ℕ) : Type 0 where
   pub number_fits : number ≤ 4611686018427387904
   pub few_edits : edits ≤ 10000
-  pub some_nodes : 1 ≤ nodes
-  pub few_nodes : nodes ≤ 15
+  pub permitted : PermittedNodes nodes
 
 -- ## Actors
 -- the two writers and the standby, by their order of declaration

@@ -1,5 +1,6 @@
 -- The grammar of scripts: how a script is spelled, and which texts are spelled so.
 use Rattle.std.specs.Prelude.{ℕ, ◌≡◌, ◌≢◌, ◌≤◌, ◌<◌, List, [], ◌∷◌, ◌++◌, Bool, true, false, not, None, ◌==◌, if◌then◌else◌, length, codes, map, decimal}
+use Rattle.journal_core.specs.Nodes.{PermittedNodes}
 use Rattle.std.specs.List.{list_all, AllByRecursion}
 use Rattle.base_words.specs.Hex.{hex_text}
 use Rattle.journal_history.specs.declared.stop.Stop.TheVariants as stop
@@ -171,10 +172,9 @@ unfoldable pub AreLines : SaidView → List ScriptLine → Type 0
 AreLines said [] = Unit {0}
 AreLines said (line ∷ lines) = MaySay said line × AreLines (said_after said line) lines
 
--- a script: 1 to 15 nodes, and lines that make sense in their places
+-- a script: a permitted number of nodes, and lines that make sense in their places
 pub record IsScript (s : ScriptView) : Type 0 where
-  pub some : 0 < s.nodes
-  pub most : s.nodes < 16
+  pub permitted : PermittedNodes s.nodes
   pub lines : AreLines (nothing_said s.named s.nodes) s.lines
 
 -- a script's lines, without comments and empty lines

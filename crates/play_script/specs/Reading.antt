@@ -1,5 +1,6 @@
 -- What the reader of scripts answers, and where it stands between two lines.
 use Rattle.std.specs.Prelude.{ℕ, ◌≡◌, ◌<◌, ◌≤◌, ◌+◌, ◌==◌, ◌&&◌, List, [], ◌∷◌, ◌++◌, Option, Some, None, is_some, is_none, Bool, true, false, not, if◌then◌else◌, length}
+use Rattle.journal_core.specs.Nodes.{PermittedNodes}
 use Rattle.std.specs.List.{list_all}
 use Rattle.edit_ops.specs.Records.{EditView}
 use Rattle.edit_codec.specs.EditTexts.{text_of, IsText}
@@ -9,11 +10,12 @@ use Rattle.play_script.specs.declared.line_read.LineRead.{LineRead}
 use Rattle.play_script.specs.declared.line_read.LineRead.TheVariants as line_read
 use Rattle.play_script.specs.declared.script_line.ScriptLine.{ScriptLine}
 use Rattle.play_script.specs.declared.kind.Kind.{Kind}
+use Rattle.play_script.specs.declared.kind.Kind.TheVariants as kind
 use Rattle.play_script.specs.Scripts.{ScriptView}
 use Rattle.play_script.specs.Views.{SaidView, ReadingView}
 use Rattle.base_words.specs.Words.{words_of}
 use Rattle.play_script.specs.Words.{actor_of, name_at}
-use Rattle.play_script.specs.Grammar.{is_silent, first_line, texts_of, operands, words_in, kind_in, belongs, nothing_said, said_after, HasSense, AreLines, unless_silent, lines_that_say}
+use Rattle.play_script.specs.Grammar.{is_silent, first_line, texts_of, operands, words_in, kind_in, belongs, nothing_said, said_by, said_after, HasSense, AreLines, unless_silent, lines_that_say}
 use Rattle.play_script.specs.Lines.{Line, Ended, Open, is_line, is_whole, lines_of}
 use Rattle.play_script.specs.Rules.{later_rule, rule_of, rule_said, said_with_line, first_fault, fault_of}
 
@@ -38,6 +40,11 @@ Reads read.OutOfMemory t = Unit {0}
 -- the word is the name of that actor
 abbrev pub Names : List (List ℕ) → List ℕ → ℕ → Type 0
 Names names word actor = (actor_of names word ≡ Some actor) × (name_at names actor ≡ word) × (actor < length names)
+
+-- one more actor, unless there is one of that name: whether it was new
+abbrev pub Declares : SaidView → List ℕ → Bool → SaidView → Type 0
+Declares old name true now = (actor_of old.names name ≡ None) × (now ≡ said_by old kind.Declare (name ∷ []))
+Declares old name false now = (is_some (actor_of old.names name) ≡ true) × (now ≡ old)
 
 -- ## Memory
 -- Memory is wanted for a line that breaks no rule, and for the edits in front of one that isn't
@@ -75,6 +82,11 @@ pub record Says (said : SaidView) (text : List ℕ) (line : ScriptLine) : Type 0
   pub here : belongs said.named (kind_in line) ≡ true
   pub sense : HasSense said line
 
+-- what the lines said with one more: a line that breaks a rule says nothing
+abbrev pub said_read : SaidView → LineRead → SaidView
+said_read said (line_read.Broken rule) = said
+said_read said (line_read.Says line) = said_after said line
+
 abbrev pub IsLineRead : SaidView → List ℕ → LineRead → Type 0
 IsLineRead said text (line_read.Broken rule) = rule_said (Some said) text ≡ Some rule
 IsLineRead said text (line_read.Says line) = Says said text line
@@ -97,8 +109,7 @@ all_said said (line ∷ lines) = all_said (said_after said line) lines
 
 -- these lines are a script's, and said that
 pub record AreSaidBy (now : SaidView) (all : List ScriptLine) : Type 0 where
-  pub some : 0 < now.nodes
-  pub most : now.nodes < 16
+  pub permitted : PermittedNodes now.nodes
   pub said : now ≡ all_said (nothing_said now.named now.nodes) all
   pub lines : AreLines (nothing_said now.named now.nodes) all
 

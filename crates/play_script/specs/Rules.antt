@@ -3,6 +3,7 @@
 use Rattle.std.specs.Prelude.{ℕ, ◌+◌, List, [], ◌∷◌, ◌++◌, Bool, true, false, not, Option, Some, None, ◌==◌, ◌&&◌, ◌||◌, nat_le, if◌then◌else◌, length, drop, is_some, is_none}
 use Rattle.std.specs.List.{list_all, list_any, find, range_with_len}
 use Rattle.std.specs.Str.{bytes_eq}
+use Rattle.journal_core.specs.Nodes.{most_nodes}
 use Rattle.play_script.specs.declared.task_word.TaskWord.TheVariants as task
 use Rattle.play_script.specs.declared.standby_word.StandbyWord.TheVariants as standby
 use Rattle.play_script.specs.declared.call_word.CallWord.TheVariants as call
@@ -20,7 +21,7 @@ use Rattle.play_script.specs.Grammar.{keyword, first_line, nothing_said, said_by
 -- ## Rule 1: the first line
 -- the number of nodes that the first line of such a script tells
 unfoldable pub nodes_of : Bool → List ℕ → Option ℕ
-nodes_of named line = find (λ nodes. bytes_eq line (first_line named nodes)) (range_with_len 1 15)
+nodes_of named line = find (λ nodes. bytes_eq line (first_line named nodes)) (range_with_len 1 most_nodes)
 
 abbrev pub said_first_of : Bool → Option ℕ → Option SaidView → Option SaidView
 said_first_of named None other = other

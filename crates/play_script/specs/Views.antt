@@ -1,6 +1,11 @@
 -- What contracts see of what a script's lines so far said.
-use Rattle.std.specs.Prelude.{ℕ, List, Option, Bool}
+use Rattle.std.specs.Prelude.{ℕ, List, Option, Bool, map}
+use Rattle.std.specs.Borrow.{Bor}
 use Rattle.play_script.specs.declared.script_line.ScriptLine.{ScriptLine}
+
+-- names that are lent
+abbrev pub lent_names : List (Bor (List ℕ)) → List (List ℕ)
+lent_names names = map (λ n. n.now) names
 
 pub record SaidView : Type 0 where
   pub named : Bool

@@ -1,5 +1,5 @@
 -- Words that are names, numbers and bodies.
-use Rattle.std.specs.Prelude.{ℕ, ◌^◌, List, [], ◌∷◌, Bool, false, not, Option, ◌&&◌, ◌||◌, nat_lt, nat_le, length, codes, slice_index_or, position, is_some}
+use Rattle.std.specs.Prelude.{ℕ, ◌≡◌, ◌^◌, List, [], ◌∷◌, ◌++◌, Bool, true, false, not, Option, None, ◌&&◌, ◌||◌, nat_lt, nat_le, length, codes, slice_index_or, position, is_some}
 use Rattle.std.specs.List.{list_all, find}
 use Rattle.std.specs.Str.{bytes_eq}
 use Rattle.journal_core.specs.declared.cut.Cut.{Cut}
@@ -35,6 +35,11 @@ actor_of names name = position (λ n. bytes_eq n name) names
 -- the name with that number
 abbrev pub name_at : List (List ℕ) → ℕ → List ℕ
 name_at names actor = slice_index_or names actor []
+
+-- one more name: where it is new it goes last, and else it is there
+abbrev pub Inserts : List (List ℕ) → List ℕ → Bool → List (List ℕ) → Type 0
+Inserts old name true new = (actor_of old name ≡ None) × (new ≡ old ++ name ∷ [])
+Inserts old name false new = (is_some (actor_of old name) ≡ true) × (new ≡ old)
 
 -- ## Numbers
 -- the greatest number of a script

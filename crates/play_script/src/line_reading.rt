@@ -3,7 +3,7 @@ ghost use Rattle.std.specs.Prelude.{◌≡◌, ◌+◌, ◌∷◌, [], true, Som
 ghost use Rattle.play_script.specs.declared.kind.Kind.TheVariants as kind;
 ghost use Rattle.base_words.specs.Words.{words_of};
 ghost use Rattle.play_script.specs.Rules.{has_length, later_rule, rule_said};
-ghost use Rattle.play_script.specs.Reading.{IsRead, IsLineRead, takes_memory};
+ghost use Rattle.play_script.specs.Reading.{IsRead, IsLineRead, said_read, takes_memory};
 
 use crate::call_word::CallWord;
 use crate::edits::read_edits;
@@ -25,11 +25,17 @@ use journal_history::Stop;
 use journal_text::read_bodies;
 use std::alloc::Global;
 
-/// A declaration. Memory is taken for a name that may be declared alone.
+/// A declaration: the actor is one of those that were declared from here on. Memory is taken for a
+/// name that may be declared alone.
 #[tactic(auto, using(crate::proofs::MemoryLaws::declared_takes))]
-fn read_declaration(alloc: Global, said: &Said, name: &[u8]) -> Result<LineRead, OutOfMemory>
-    ensures read { IfOk result (IsRead said.now kind.Declare (name.now ∷ [])) }
-    ensures memory { OnErr result (takes_memory (later_rule said.now kind.Declare (name.now ∷ [])) ≡ true) }
+fn read_declaration<'a>(
+    alloc: Global,
+    said: &mut Said<'a>,
+    name: &'a [u8],
+) -> Result<LineRead, OutOfMemory>
+    ensures read { IfOk result (IsRead said.old kind.Declare (name.now ∷ [])) }
+    ensures said { IfOk result (λ r. said.new ≡ said_read said.old r) }
+    ensures memory { OnErr result (takes_memory (later_rule said.old kind.Declare (name.now ∷ [])) ≡ true) }
 {
     if !is_name(name) {
         return Ok(LineRead::Broken { rule: BAD_NAME });
@@ -39,7 +45,7 @@ fn read_declaration(alloc: Global, said: &Said, name: &[u8]) -> Result<LineRead,
             rule: TOO_MANY_ACTORS,
         });
     }
-    if said.actor_of(name).is_some() {
+    if !said.declare(name)? {
         return Ok(LineRead::Broken {
             rule: DECLARED_AGAIN,
         });
@@ -231,16 +237,17 @@ fn read_cut(said: &Said, node: &[u8], calls: &[u8], made: &[u8], choice: &[u8]) 
 }
 
 /// The words after the first of a line of that kind, of which there are as many as the kind wants.
-#[tactic(auto, using(crate::proofs::KindLaws::arities))]
-fn read_operands(
+#[tactic(auto, using(crate::proofs::KindLaws::arities, crate::proofs::SetLaws::kept))]
+fn read_operands<'a>(
     alloc: Global,
-    said: &Said,
+    said: &mut Said<'a>,
     kind: Kind,
-    text: &[u8],
+    text: &'a [u8],
 ) -> Result<LineRead, OutOfMemory>
     requires { has_length kind (length (words_of text.now) + 1) ≡ true }
-    ensures read { IfOk result (IsRead said.now kind (words_of text.now)) }
-    ensures memory { OnErr result (takes_memory (later_rule said.now kind (words_of text.now)) ≡ true) }
+    ensures read { IfOk result (IsRead said.old kind (words_of text.now)) }
+    ensures said { IfOk result (λ r. said.new ≡ said_read said.old r) }
+    ensures memory { OnErr result (takes_memory (later_rule said.old kind (words_of text.now)) ≡ true) }
 {
     match kind {
         Kind::Declare => read_declaration(alloc, said, text),
@@ -278,12 +285,18 @@ fn read_operands(
     }
 }
 
-/// A line that says something, after the first: its tests in order. No memory is taken for one that
+/// A line that says something, after the first: its tests in order. What it says is said from here
+/// on. No memory is taken for one that
 /// breaks a rule, but for the edits in front of a bad one.
 #[tactic(auto, using(crate::proofs::KindLaws::first_tests))]
-pub fn read_line(alloc: Global, said: &Said, line: &[u8]) -> Result<LineRead, OutOfMemory>
-    ensures read { IfOk result (IsLineRead said.now line.now) }
-    ensures memory { OnErr result (takes_memory (rule_said (Some said.now) line.now) ≡ true) }
+pub fn read_line<'a>(
+    alloc: Global,
+    said: &mut Said<'a>,
+    line: &'a [u8],
+) -> Result<LineRead, OutOfMemory>
+    ensures read { IfOk result (IsLineRead said.old line.now) }
+    ensures said { IfOk result (λ r. said.new ≡ said_read said.old r) }
+    ensures memory { OnErr result (takes_memory (rule_said (Some said.old) line.now) ≡ true) }
 {
     let Some(kind) = kind_of(said.named(), first_word(line)) else {
         return Ok(LineRead::Broken { rule: FIRST_WORD });

@@ -1,6 +1,7 @@
 //! The reader of scripts, line by line.
-ghost use Rattle.std.specs.Prelude.{◌≡◌, ◌<◌, Some, None, IfOk, IfSome, IfNone, IsOk, OnErr, length, true, false};
+ghost use Rattle.std.specs.Prelude.{◌≡◌, ◌≤◌, Some, None, IfOk, IfSome, IfNone, IsOk, OnErr, length, true, false};
 ghost use Rattle.std.specs.Str.{bytes_eq};
+ghost use Rattle.journal_core.specs.Nodes.{most_nodes};
 ghost use Rattle.play_script.specs.Grammar.{first_line, is_silent};
 ghost use Rattle.play_script.specs.Rules.{nodes_of, said_first, rule_said, rule_of};
 ghost use Rattle.play_script.specs.Reading.{IsSound, Adds, Takes, nothing_read, script_of, takes_memory};
@@ -12,14 +13,14 @@ use crate::rules::{FIRST_LINE, LINE_BYTES};
 use crate::said::Said;
 use crate::script::Script;
 use crate::script_line::ScriptLine;
-use journal_core::OutOfMemory;
+use journal_core::{MOST_NODES, OutOfMemory};
 use std::alloc::Global;
 use std::marker::Model;
 
 /// The line is `raw N` with that number.
 #[tactic(auto, using(crate::proofs::FirstLaws::first_lines))]
 fn is_raw_line(line: &[u8], nodes: usize) -> bool
-    requires { nodes < 16 }
+    requires { nodes ≤ most_nodes }
     ensures { result ≡ bytes_eq line.now (first_line false nodes) }
 {
     if nodes < 10 {
@@ -32,7 +33,7 @@ fn is_raw_line(line: &[u8], nodes: usize) -> bool
 /// The line is `names N` with that number.
 #[tactic(auto, using(crate::proofs::FirstLaws::first_lines))]
 fn is_names_line(line: &[u8], nodes: usize) -> bool
-    requires { nodes < 16 }
+    requires { nodes ≤ most_nodes }
     ensures { result ≡ bytes_eq line.now (first_line true nodes) }
 {
     if nodes < 10 {
@@ -54,7 +55,7 @@ fn is_names_line(line: &[u8], nodes: usize) -> bool
 
 /// The line is the first one of such a script with that number.
 fn is_first_line(line: &[u8], named: bool, nodes: usize) -> bool
-    requires { nodes < 16 }
+    requires { nodes ≤ most_nodes }
     ensures { result ≡ bytes_eq line.now (first_line named nodes) }
 {
     if named {
@@ -69,7 +70,7 @@ fn is_first_line(line: &[u8], named: bool, nodes: usize) -> bool
 pub(crate) fn nodes_of(named: bool, line: &[u8]) -> Option<usize>
     ensures { result ≡ nodes_of named line.now }
 {
-    for nodes in 1..16 {
+    for nodes in 1..MOST_NODES as usize + 1 {
         if is_first_line(line, named, nodes) {
             return Some(nodes);
         }
@@ -78,7 +79,7 @@ pub(crate) fn nodes_of(named: bool, line: &[u8]) -> Option<usize>
 }
 
 /// What the first line says, if it is `raw N` or `names N`.
-fn said_first(alloc: Global, line: &[u8]) -> Option<Said>
+fn said_first<'a>(alloc: Global, line: &[u8]) -> Option<Said<'a>>
     ensures { result ≡ said_first line.now }
 {
     if let Some(nodes) = nodes_of(false, line) {
@@ -92,11 +93,11 @@ fn said_first(alloc: Global, line: &[u8]) -> Option<Said>
 
 /// One more line that says something, after the first; the answer is the rule that it breaks.
 #[tactic(auto, using(crate::proofs::MemoryLaws::says_takes))]
-fn add_line(
+fn add_line<'a>(
     alloc: Global,
-    said: &mut Said,
+    said: &mut Said<'a>,
     lines: &mut Vec<ScriptLine>,
-    line: &[u8],
+    line: &'a [u8],
 ) -> Result<Option<u32>, OutOfMemory>
     ensures broken { IfOk result (λ o. IfSome o (λ rule. rule_said (Some said.old) line.now ≡ Some rule)) }
     ensures taken { IfOk result (λ o. IfNone o (Adds said.old lines.old.items line.now said.new lines.new.items)) }
@@ -105,7 +106,6 @@ fn add_line(
     match read_line(alloc, said, line)? {
         LineRead::Broken { rule } => Ok(Some(rule)),
         LineRead::Says(line) => {
-            said.add(&line)?;
             lines.push(line)?;
             Ok(None)
         }
@@ -114,12 +114,12 @@ fn add_line(
 
 /// What was read so far.
 #[derive(Drop)]
-pub struct Reading {
-    said: Option<Said>,
+pub struct Reading<'a> {
+    said: Option<Said<'a>>,
     lines: Vec<ScriptLine>,
 }
 
-impl Model for Reading {
+impl<'a> Model for Reading<'a> {
     ghost use Rattle.play_script.specs.Views.{ReadingView};
 
     ghost Value = { ReadingView };
@@ -127,9 +127,9 @@ impl Model for Reading {
     ghost view = { λ r. record { said = r.said; lines = r.lines.items } };
 }
 
-impl Reading {
+impl<'a> Reading<'a> {
     /// No line came.
-    pub fn empty(alloc: Global) -> Reading
+    pub fn empty(alloc: Global) -> Reading<'a>
         ensures { result ≡ nothing_read }
     {
         Reading {
@@ -142,7 +142,7 @@ impl Reading {
     /// says nothing, for the first that says something, or for one that breaks a rule, but for the
     /// edits in front of a bad one.
     #[tactic(auto, using(crate::proofs::ReadLaws::takes))]
-    pub fn take_line(&mut self, alloc: Global, line: &[u8]) -> Result<Option<u32>, OutOfMemory>
+    pub fn take_line(&mut self, alloc: Global, line: &'a [u8]) -> Result<Option<u32>, OutOfMemory>
         requires { IsSound self.old }
         ensures broken { IfOk result (λ o. IfSome o (λ rule. rule_of self.old.said line.now ≡ Some rule)) }
         ensures taken { IfOk result (λ o. IfNone o (Takes self.old line.now self.new)) }
@@ -170,7 +170,7 @@ impl Reading {
 
     /// The script, if some line said something.
     pub fn script(self) -> Option<Script>
-        ensures { result ≡ script_of self.said self.lines }
+        ensures { result ≡ script_of self.entry.said self.entry.lines }
     {
         let Reading { said, lines } = self;
         match said {

@@ -40,7 +40,7 @@ due_is source bytes good text read (inr d) = disagreeing bytes d.0 read d.1 d.2 
 
 pub fault_is : (source : SourceUse) (bytes : List ℕ) (of : CommandFault) → IsReadReport source bytes → IsFaultOf bytes of → IsJudgeFault source of
 fault_is source bytes (fault.BadReport line rule) read n = (bytes, read, n.0, n.1, n.2)
-fault_is source bytes fault.OutOfMemory read n = tt
+fault_is source bytes fault.OutOfMemory read n = read.no_fault
 fault_is source bytes (fault.Usage place) read n = absurd n
 fault_is source bytes (fault.BadScript line rule) read n = absurd n
 fault_is source bytes fault.NoFile read n = absurd n

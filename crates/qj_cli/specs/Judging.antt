@@ -37,12 +37,13 @@ pub data GivesJudgement (source : SourceUse) (good : Status) (text : List ℕ) :
   disagreeing : (bytes : List ℕ) (found : Finding) → IsReadReport source bytes → good ≡ status.Unsound → text ≡ disagrees_text found → OfDisagreeing bytes found.part
       → OfPlace bytes found → GivesJudgement source good text
 
--- each fault comes only where this holds
+-- Each fault comes only where this holds: where a read failed it is ReadFault, whatever was read
+-- before it.
 abbrev pub IsJudgeFault : SourceUse → CommandFault → Type 0
 IsJudgeFault source (fault.BadReport line rule) = (bytes : List ℕ) × IsReadReport source bytes × IsLine bytes line × NoReport bytes × IsFirst bytes line rule
 IsJudgeFault source (fault.Limit number) = (number ≡ longest_report) × IsLongReport source
 IsJudgeFault source fault.ReadFault = AReadFailed source
-IsJudgeFault source fault.OutOfMemory = Unit {0}
+IsJudgeFault source fault.OutOfMemory = NoReadFailed source
 IsJudgeFault source _ = ⊥
 
 -- How the judging ended.

@@ -1,8 +1,11 @@
 -- Each report of lists within the limits is read as lists with that text.
-use Rattle.std.proofs.Common.{ℕ, zero, suc, ◌≡◌, ◌≢◌, ◌<◌, ◌≤◌, ◌+◌, ◌^◌, List, [], ◌∷◌, ◌++◌, length, drop, refl, sym, ap, subst, ◌∙◌, arith, inl}
+use Rattle.std.proofs.Common.{ℕ, zero, suc, ◌≡◌, ◌≢◌, ◌<◌, ◌≤◌, ◌+◌, ◌-◌, ◌^◌, List, [], ◌∷◌, ◌++◌, Bool, true, false, Some, None, length, drop, refl, sym, ap, subst, ◌∙◌, arith, inl}
 use Rattle.std.proofs.Common.{append-nil, append_assoc, decimal}
-use Rattle.std.specs.Prelude.{codes, slice_get, unwrap_or}
+use Rattle.std.specs.Prelude.{codes, slice_get, unwrap_or, if◌then◌else◌}
 use Rattle.std.specs.List.{AllByRecursion}
+use Rattle.std.specs.Str.{bytes_eq}
+use Rattle.std.proofs.lemmas.Slice.Eq.{bytes_eq-Decides}
+use Rattle.journal_core.specs.Nodes.{most_nodes}
 use Rattle.journal_text.specs.Texts.{numbers_text}
 use Rattle.journal_history.specs.declared.history_line.HistoryLine.{HistoryLine}
 use Rattle.journal_history.specs.declared.record.Record.{Record}
@@ -17,7 +20,8 @@ use Rattle.report_judge.specs.declared.actors.Callers.{Callers}
 use Rattle.report_judge.specs.declared.answer.Lists.{Lists}
 use Rattle.report_judge.specs.Pieces.{pieces, Front, Taken, Broken, then_, IsBroken, Stops}
 use Rattle.report_judge.specs.Reading.{number_within, nodes_in, actors_in, operator_in, end_in, no_callers, callers_in, with_record, names_from, first_by, first_in, ListsView, read_as, lists_with}
-use Rattle.report_judge.specs.Reading.{lists_in, shown, printed}
+use Rattle.report_judge.specs.Reading.{lists_in, shown, printed, read_back, lists_of}
+use Rattle.report_judge.specs.Reads.{IsReadAs}
 use Rattle.report_judge.specs.Written.{IsRecordLine, AreWritten, NoReport}
 use Rattle.report_judge.specs.Complete.{bared, SpellsOtherwise, IsUnread}
 use Rattle.report_judge.proofs.PieceLaws.{first_piece, has_piece, HasPiece}
@@ -30,19 +34,19 @@ use Rattle.report_judge.proofs.PartBack.{actors_next, nodes_back, nodes_names, a
 abbrev first_line : ℕ → List ℕ
 first_line n = codes "nodes" ++ numbers_text (n ∷ [])
 
-first_whole : (n : ℕ) → n ≤ 15 → Lacks 10 (first_line n)
+first_whole : (n : ℕ) → n ≤ most_nodes → Lacks 10 (first_line n)
 first_whole n few = no_end (first_line n) (tame_append (codes "nodes") (numbers_text (n ∷ [])) refl (tame_numbers (n ∷ []) (omega (arith, few), tt)))
 
-first_step : (n : ℕ) (ps : List (List ℕ)) → HasPiece ps → first_in (first_line n ∷ ps) ≡ first_by (first_line n ∷ ps) (number_within 1 15 (decimal n ++ [])) ps
+first_step : (n : ℕ) (ps : List (List ℕ)) → HasPiece ps → first_in (first_line n ∷ ps) ≡ first_by (first_line n ∷ ps) (number_within 1 most_nodes (decimal n ++ [])) ps
 unfolding first_in numbers_text
 first_step n [] h = absurd (let e = h.are in cc)
 first_step n (m ∷ ps) h = refl
 
-first_back : (n : ℕ) (text rest : List ℕ) → 1 ≤ n → n ≤ 15 → text ≡ first_line n ++ 10 ∷ rest → first_in (pieces text) ≡ Taken n (pieces rest)
+first_back : (n : ℕ) (text rest : List ℕ) → 1 ≤ n → n ≤ most_nodes → text ≡ first_line n ++ 10 ∷ rest → first_in (pieces text) ≡ Taken n (pieces rest)
 first_back n text rest some few e =
     ap first_in (first_piece text (first_line n) rest e (first_whole n few)) ∙ first_step n (pieces rest) (has_piece rest)
-    ∙ ap (λ x. first_by (first_line n ∷ pieces rest) (number_within 1 15 x) (pieces rest)) (append-nil (decimal n))
-    ∙ ap (λ o. first_by (first_line n ∷ pieces rest) o (pieces rest)) (within_back 1 15 n (omega (arith, few)) some few)
+    ∙ ap (λ x. first_by (first_line n ∷ pieces rest) (number_within 1 most_nodes x) (pieces rest)) (append-nil (decimal n))
+    ∙ ap (λ o. first_by (first_line n ∷ pieces rest) o (pieces rest)) (within_back 1 most_nodes n (omega (arith, few)) some few)
 
 text_spelled : (m : Mesh) (ends : List End) → text_of m ends ≡ first_line m.nodes ++ 10 ∷ (nodes_text ends 1 m.histories ++ (actors_text ends m.records ++ codes "end\n"))
 unfolding text_of
@@ -118,7 +122,7 @@ pub lists_back : (lists : Lists) → AreWritten lists → ReadsAs (text_of lists
 lists_back lists w =
     let m = lists.mesh in
     let ends = lists.ends in
-    let few = w.few in
+    let few = w.permitted.1 in
     let tail = actors_text ends m.records ++ codes "end\n" in
     let rest = nodes_text ends 1 m.histories ++ tail in
     let many = w.histories in
@@ -126,18 +130,18 @@ lists_back lists w =
     let low : 1 + length m.histories < 2 ^ 64 = omega (arith, many, few) in
     let named : names_from [] (pieces rest) ≡ bared ends =
     nodes_names ends w.named [] 1 m.histories tail low w.history_lines
-    ∙ actors_names m.nodes w.few [] ends m.records w.named w.records w.held w.record_lines (none_free ends) (omega (arith, actors)) in
+    ∙ actors_names m.nodes w.permitted.1 [] ends m.records w.named w.records w.held w.record_lines (none_free ends) (omega (arith, actors)) in
     let nodes = nodes_back ends w.named 1 [] m.histories tail (actors_next ends m.records w.named w.records) low w.history_lines in
-    let took = actors_back m.nodes w.few no_callers ends m.records w.named w.records w.held w.record_lines in
+    let took = actors_back m.nodes w.permitted.1 no_callers ends m.records w.named w.records w.held w.record_lines in
     let with : Callers = record { ends = took.took; records = took.told } in
-    let last = operator_back m.nodes w.few with (drop (length ends) m.records) (all_drop (AllByRecursion (IsRecordLine m.nodes)) (length ends) m.records w.record_lines) in
-    let first = first_back m.nodes (text_of m ends) rest w.some w.few (text_spelled m ends) in
+    let last = operator_back m.nodes w.permitted.1 with (drop (length ends) m.records) (all_drop (AllByRecursion (IsRecordLine m.nodes)) (length ends) m.records w.record_lines) in
+    let first = first_back m.nodes (text_of m ends) rest w.permitted.0 w.permitted.1 (text_spelled m ends) in
     let view = read_as m.nodes nodes.histories (with_record with last.lines) in
     let all =
     with_step m.nodes (pieces (text_of m ends)) (pieces rest) (pieces tail) (bared ends) nodes.histories (with_record with last.lines) first
     (ap (λ n. nodes_in (bared ends) n 1 [] (pieces rest)) (sym w.histories) ∙ nodes.are)
     (callers_step m.nodes (bared ends) (pieces tail) (pieces (operator_text (drop (length ends) m.records) ++ codes "end\n")) (pieces (codes "end\n")) with (with_record with last.lines)
-    took.are last.are (end_back m.nodes w.few)) in
+    took.are last.are (end_back m.nodes w.permitted.1)) in
     record {
       view = view;
       are = lists_step m.nodes (pieces (text_of m ends)) (pieces rest) (bared ends) view first named all;
@@ -148,11 +152,21 @@ lists_back lists w =
     }
 
 -- ## What is no report
+of_by : (bytes : List ℕ) (f : Front ListsView) → lists_in (pieces bytes) ≡ f → lists_of bytes ≡ read_back bytes f
+unfolding lists_of
+of_by bytes f e = ap (read_back bytes) e
+
+none_broken : (bytes : List ℕ) (f : Front ListsView) (left : ℕ) (rule : Rule) → IsBroken f left rule → read_back bytes f ≡ None
+none_broken bytes (Taken view ps) left rule h = absurd h
+none_broken bytes (Broken ps r) left rule h = refl
+
 pub no_report_stopped : (bytes : List ℕ) (e : Unread) → Stops (lists_in (pieces bytes)) e → (left : ℕ) (rule : Rule) → e ≡ unread.Bad left rule → NoReport bytes
-no_report_stopped bytes e h left rule is lists w of =
-    let r = lists_back lists w in
+no_report_stopped bytes e h left rule is =
     let broken : IsBroken (lists_in (pieces bytes)) left rule = subst (Stops (lists_in (pieces bytes))) is h in
-    subst (λ f. IsBroken f left rule) (ap (λ t. lists_in (pieces t)) of ∙ r.are) broken
+    record {
+      none = of_by bytes (lists_in (pieces bytes)) refl ∙ none_broken bytes (lists_in (pieces bytes)) left rule broken;
+      of_none = λ lists w of. subst (λ f. IsBroken f left rule) (ap (λ t. lists_in (pieces t)) of ∙ (lists_back lists w).are) broken;
+    }
 
 shown_printed : (lists : Lists) → printed (shown lists) ≡ text_of lists.mesh lists.ends
 unfolding text_of
@@ -162,11 +176,34 @@ abbrev what_of : Front ListsView → ListsView → ListsView
 what_of (Taken v left) other = v
 what_of (Broken left r) other = other
 
+other_text : (bytes text : List ℕ) → bytes ≢ text → bytes_eq bytes text ≡ false
+other_text bytes text apart = by (bytes_eq bytes text) refl
+  where
+    by : (b : Bool) → bytes_eq bytes text ≡ b → b ≡ false
+    by false e = refl
+    by true e = absurd (apart ((bytes_eq-Decides bytes text).0 e))
+
 pub no_report_parted : (bytes : List ℕ) (read : Lists) → lists_in (pieces bytes) ≡ Taken (shown read) [] → bytes ≢ text_of read.mesh read.ends → NoReport bytes
-no_report_parted bytes read is apart lists w of =
-    let r = lists_back lists w in
-    let same : shown read ≡ r.view = ap (λ f. what_of f (shown read)) (sym is ∙ ap (λ t. lists_in (pieces t)) of ∙ r.are) in
-    apart (of ∙ sym r.same ∙ ap printed (sym same) ∙ shown_printed read)
+no_report_parted bytes read is apart = record {
+  none =
+      of_by bytes (Taken (shown read) []) is
+      ∙ ap (λ (b : Bool). if b then Some (shown read) else None) (other_text bytes (printed (shown read)) (λ e. apart (e ∙ shown_printed read)));
+  of_none = λ lists w of.
+      let r = lists_back lists w in
+      let same : shown read ≡ r.view = ap (λ f. what_of f (shown read)) (sym is ∙ ap (λ t. lists_in (pieces t)) of ∙ r.are) in
+      apart (of ∙ sym r.same ∙ ap printed (sym same) ∙ shown_printed read);
+}
+
+-- what is read are the lists in the bytes
+pub read_as_is : (bytes : List ℕ) (read : Lists) → lists_in (pieces bytes) ≡ Taken (shown read) [] → bytes ≡ text_of read.mesh read.ends
+    → length read.mesh.plan ≡ length read.mesh.records - 1 → IsReadAs bytes read
+read_as_is bytes read is of sized = record {
+  is_report = of;
+  are =
+      of_by bytes (Taken (shown read) []) is
+      ∙ ap (λ (b : Bool). if b then Some (shown read) else None) ((bytes_eq-Decides bytes (printed (shown read))).1 (of ∙ sym (shown_printed read)));
+  sized = sized;
+}
 
 pub spelled_otherwise : (bytes : List ℕ) (read : Lists) → lists_in (pieces bytes) ≡ Taken (shown read) [] → bytes ≢ text_of read.mesh read.ends → SpellsOtherwise bytes
 spelled_otherwise bytes read is apart = record { view = shown read; is_read = is; apart = λ e. apart (e ∙ shown_printed read) }
@@ -176,4 +213,4 @@ pub stopped_unread : (bytes : List ℕ) (e : Unread) → Stops (lists_in (pieces
 stopped_unread bytes (unread.Bad left rule) h = (no_report_stopped bytes (unread.Bad left rule) h left rule refl, inl h)
 stopped_unread bytes unread.OutOfMemory h = tt
 
-pub ruleset unreads = (stopped_unread)
+pub ruleset unreads = (stopped_unread, read_as_is)

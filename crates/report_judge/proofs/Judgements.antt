@@ -12,7 +12,7 @@ use Rattle.mesh_judge.specs.declared.part.Part.TheVariants as part
 use Rattle.mesh_judge.specs.Broken.{Keeps}
 use Rattle.mesh_judge.proofs.Broken.{kept}
 use Rattle.report_judge.specs.declared.answer.Lists.{Lists}
-use Rattle.report_judge.specs.Reads.{IsReportOf}
+use Rattle.report_judge.specs.Reads.{IsReadAs}
 use Rattle.report_judge.specs.declared.judgement.Judgement.{Judgement}
 use Rattle.report_judge.specs.declared.judgement.Judgement.TheVariants as judgement
 use Rattle.report_judge.specs.Judged.{is_markless, marked_by, JudgesLists, Judges, Places}
@@ -31,11 +31,11 @@ any_marks part.Calls m plan l e h =
 any_marks part.Marks m plan l e h = absurd (cc l)
 any_marks part.Rounds m plan l e h = subst (λ (n : ℕ). (c : ℕ) → c < n → IsOfChores m.nodes (record_of m c)) e h
 
-judged_by : OrderIsRun → OrderIsSafe → (bytes : List ℕ) (lists : Lists) (j : Judgement) → IsReportOf bytes lists → JudgesLists lists j → Judges bytes j
-judged_by run safe bytes lists judgement.Agrees of a = record { lists = lists; is_report = of; agrees = a; run = run lists.mesh a; safe = safe lists.mesh a }
+judged_by : OrderIsRun → OrderIsSafe → (bytes : List ℕ) (lists : Lists) (j : Judgement) → IsReadAs bytes lists → JudgesLists lists j → Judges bytes j
+judged_by run safe bytes lists judgement.Agrees of a = record { lists = lists; is_read = of; agrees = a; run = run lists.mesh a; safe = safe lists.mesh a }
 judged_by run safe bytes lists (judgement.Disagrees found) of b = record {
   lists = lists;
-  is_report = of;
+  is_read = of;
   breaks = b.0;
   apart = λ a. b.0.1 (kept found.part lists.mesh a);
   others = λ l plan e a. b.0.1 (any_marks found.part lists.mesh plan l e (kept found.part (marked_by lists.mesh plan) a));
@@ -43,14 +43,14 @@ judged_by run safe bytes lists (judgement.Disagrees found) of b = record {
 judged_by run safe bytes lists (judgement.Bad line rule) of n = absurd n
 
 -- where the judgement of the lists came
-pub judged : {E : Type 0} → OrderIsRun → OrderIsSafe → (bytes : List ℕ) (lists : Lists) (r : Result Judgement E) → IsReportOf bytes lists
+pub judged : {E : Type 0} → OrderIsRun → OrderIsSafe → (bytes : List ℕ) (lists : Lists) (r : Result Judgement E) → IsReadAs bytes lists
     → IfOk r (λ j. JudgesLists lists j) → IfOk r (λ j. Judges bytes j)
 judged run safe bytes lists (Ok j) of d = judged_by run safe bytes lists j of d
 judged run safe bytes lists (Err e) of d = d
 
-pub placed : {E : Type 0} (bytes : List ℕ) (lists : Lists) (r : Result Judgement E) → IsReportOf bytes lists → IfOk r (λ j. JudgesLists lists j) → IfOk r (λ j. Places bytes j)
+pub placed : {E : Type 0} (bytes : List ℕ) (lists : Lists) (r : Result Judgement E) → IsReadAs bytes lists → IfOk r (λ j. JudgesLists lists j) → IfOk r (λ j. Places bytes j)
 placed bytes lists (Ok judgement.Agrees) of d = tt
-placed bytes lists (Ok (judgement.Disagrees found)) of d = record { lists = lists; is_report = of; breaks = d.0; place = d.1 }
+placed bytes lists (Ok (judgement.Disagrees found)) of d = record { lists = lists; is_read = of; breaks = d.0; place = d.1 }
 placed bytes lists (Ok (judgement.Bad line rule)) of d = tt
 placed bytes lists (Err e) of d = d
 

@@ -2,6 +2,7 @@ pub mod LineLaws
 pub mod FrontLaws
 pub mod PlaceLaws
 pub mod Judgements
+pub mod Verdicts
 pub mod PieceLaws
 pub mod CutLaws
 pub mod Tame
@@ -13,4 +14,5 @@ pub mod Complete
 pub mod Local
 pub mod FirstLaws
 pub mod ReadLaws
+pub mod NameSets
 pub mod ColumnLaws

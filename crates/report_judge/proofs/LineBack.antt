@@ -5,6 +5,7 @@ use Rattle.std.specs.Prelude.{codes}
 use Rattle.std.specs.Str.Parse.{digits_value}
 use Rattle.std.proofs.lemmas.Bool.Decides.{nat_tests}
 use Rattle.std.proofs.lemmas.Fmt.{decimal_by_steps}
+use Rattle.journal_core.specs.Nodes.{most_nodes}
 use Rattle.base_words.specs.Words.{words_of}
 use Rattle.base_words.proofs.NumberLaws.{tells, value_of_decimal}
 use Rattle.journal_core.specs.Peers.{FitsHeard}
@@ -280,7 +281,7 @@ pub within_back : (least most n : ℕ) → n < 2 ^ 64 → least ≤ n → n ≤ 
 within_back least most n w l h =
     ap (λ b. if b then Some (digits_value 10 (decimal n)) else None) (tells least most (decimal n) n w refl l h).0 ∙ ap (λ x. Some x) (value_of_decimal n w)
 
-module _ (nodes : ℕ) (few : nodes ≤ 15) where
+module _ (nodes : ℕ) (few : nodes ≤ most_nodes) where
   node_small : (node : ℕ) → IsNodeOf nodes node → node < 2 ^ 64
   node_small node h = let high = h.1 in omega (arith, high, few)
 

@@ -2,6 +2,7 @@
 use Rattle.std.proofs.Common.{ℕ, zero, suc, ◌≡◌, ◌≢◌, ◌+◌, List, [], ◌∷◌, ◌++◌, Bool, true, false, Option, Some, None, drop, refl, sym, ap, subst, ◌∙◌}
 use Rattle.std.proofs.Common.{append_assoc, if◌then◌else◌}
 use Rattle.std.specs.Prelude.{codes}
+use Rattle.journal_core.specs.Nodes.{most_nodes}
 use Rattle.journal_text.specs.Reading.{number_in}
 use Rattle.journal_history.specs.declared.history_line.HistoryLine.{HistoryLine}
 use Rattle.journal_history.specs.declared.record.Record.{Record}
@@ -481,7 +482,7 @@ lists_with_local nodes names =
 
 -- the first line
 abbrev told_nodes : List ℕ → Option ℕ
-told_nodes l = if begins l (codes "nodes ") then number_within 1 15 (drop 6 l) else None
+told_nodes l = if begins l (codes "nodes ") then number_within 1 most_nodes (drop 6 l) else None
 
 first_nil : first_in [] ≡ Broken [] rule.FirstLine
 unfolding first_in

@@ -12,10 +12,10 @@ use Rattle.ns_tree.specs.declared.end.End.{End}
 use Rattle.play_script.specs.Lines.{Lacks}
 use Rattle.play_script.specs.Words.{is_letter, is_name_byte, is_word_of_name, is_name}
 use Rattle.play_report.specs.Text.{operator, name_or_operator, caller_name}
-use Rattle.report_judge.specs.Callers.{caller_from, caller_in}
+use Rattle.report_judge.specs.Callers.{bare, caller_from, caller_in}
 use Rattle.report_judge.specs.Cuts.{has_arrow}
 use Rattle.report_judge.specs.Pieces.{pieces}
-use Rattle.report_judge.specs.Reading.{tells_name, may_follow, bare, with_name, names_from}
+use Rattle.report_judge.specs.Reading.{tells_name, may_follow, with_name, names_from}
 use Rattle.report_judge.specs.Complete.{bared}
 use Rattle.report_judge.specs.Written.{AreNamed}
 use Rattle.report_judge.proofs.PieceLaws.{first_piece, has_piece, HasPiece}

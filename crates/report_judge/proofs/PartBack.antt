@@ -6,6 +6,7 @@ use Rattle.std.specs.List.{AllByRecursion, flat_map}
 use Rattle.std.proofs.lemmas.Bool.{false≢true}
 use Rattle.std.proofs.lemmas.Bool.Decides.{Decides-eqb}
 use Rattle.std.proofs.lemmas.Slice.Eq.{bytes_eq-Decides, starts_is}
+use Rattle.journal_core.specs.Nodes.{most_nodes}
 use Rattle.base_words.specs.WordNumbers.{is_number}
 use Rattle.base_words.proofs.NumberLaws.{tells}
 use Rattle.journal_text.specs.Texts.{numbers_text, request_text}
@@ -30,7 +31,8 @@ use Rattle.report_judge.specs.Pieces.{pieces, Front, Taken, behind, then_, IsLin
 use Rattle.report_judge.specs.Rows.{row_in}
 use Rattle.report_judge.specs.Reading.{history_line_in, record_line_in, is_of_record, history_in, is_header, header_in, is_name_line, nodes_in, is_row, rows_in, held, space_in, held_from, last_in}
 use Rattle.report_judge.specs.Reading.{record_in, tells_name, name_in, with_actor, actor_in, actors_in, is_name_next, with_record, operator_in, is_end_line, nothing_in, end_in}
-use Rattle.report_judge.specs.Reading.{bare, with_name, names_from}
+use Rattle.report_judge.specs.Callers.{bare}
+use Rattle.report_judge.specs.Reading.{with_name, names_from}
 use Rattle.report_judge.specs.Complete.{bared}
 use Rattle.report_judge.specs.Written.{IsHistoryLine, IsRecordLine, IsHeld, IsRow, AreNamed}
 use Rattle.report_judge.proofs.PieceLaws.{first_piece, has_piece, HasPiece, line_taken, next_is, stops_at, lines_back}
@@ -305,7 +307,7 @@ letter_apart b bs e h =
     let spelled : b ∷ bs ≡ codes "actor " ++ drop 6 (b ∷ bs) = (starts_is Decides-eqb (b ∷ bs) (codes "actor ") (tells_name (b ∷ bs)) refl).0 e in
     false≢true (sym (ap is_of_record spelled) ∙ h)
 
-module _ (nodes : ℕ) (few : nodes ≤ 15) where
+module _ (nodes : ℕ) (few : nodes ≤ most_nodes) where
   record_line : (x : Record) → IsRecordLine nodes x → IsLineOf is_of_record (record_line_in nodes) record_line_text x
   record_line x w = record {
     line = line_of nodes few x;
@@ -475,7 +477,7 @@ over : nothing_in (pieces []) ≡ Taken tt []
 unfolding nothing_in pieces
 over = refl
 
-module _ (nodes : ℕ) (few : nodes ≤ 15) where
+module _ (nodes : ℕ) (few : nodes ≤ most_nodes) where
   -- what an actor holds, or what comes next, ends its record
   last_stops : (last : Option LastSpace) (after : List ℕ) → IsHeld last → IsNext after → record_in nodes (pieces (last_text last ++ after)) ≡ Taken [] (pieces (last_text last ++ after))
   unfolding last_text

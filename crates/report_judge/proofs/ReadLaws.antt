@@ -4,6 +4,7 @@ use Rattle.std.proofs.Common.{sym, ap, subst, ◌∙◌, arith, if◌then◌else
 use Rattle.std.specs.Prelude.{codes, MatchOption, IfOk, IfErr, is_some}
 use Rattle.std.specs.Str.Parse.{digits_value}
 use Rattle.std.proofs.lemmas.List.{drop_more, drop_all}
+use Rattle.journal_core.specs.Nodes.{most_nodes}
 use Rattle.base_words.specs.WordNumbers.{is_number, Tells}
 use Rattle.base_words.proofs.NumberLaws.{value_of_decimal}
 use Rattle.journal_text.specs.Reading.{number_in}
@@ -22,7 +23,8 @@ use Rattle.report_judge.specs.declared.unread.Unread.TheVariants as unread
 use Rattle.report_judge.specs.declared.actors.Callers.{Callers}
 use Rattle.report_judge.specs.Pieces.{pieces, joined, Front, Taken, Broken, line_if, lines_while, behind, then_, IsBroken, Stops}
 use Rattle.report_judge.specs.Reading.{number_within, history_in, header_in, nodes_in, rows_in, held, space_in, held_from, last_in, record_in, name_in, tells_name, with_actor, actor_in, actors_in}
-use Rattle.report_judge.specs.Reading.{is_name_next, with_record, operator_in, is_end_line, nothing_in, end_in, no_callers, callers_in, may_follow, bare, with_name, names_from, first_by, first_in}
+use Rattle.report_judge.specs.Callers.{bare}
+use Rattle.report_judge.specs.Reading.{is_name_next, with_record, operator_in, is_end_line, nothing_in, end_in, no_callers, callers_in, may_follow, with_name, names_from, first_by, first_in}
 use Rattle.report_judge.specs.Reading.{read_as, lists_with, lists_in}
 use Rattle.report_judge.proofs.PieceLaws.{first_piece, only_piece, joined_pieces, has_piece, HasPiece, line_taken, refused_here, missed_here, next_is, next_none, stops_at, stops_short, is_broken}
 use Rattle.report_judge.proofs.PieceLaws.{goes_on, broken_here, stops_then, stops_after, stops_at_all, broken_list, none_before, taken_list}
@@ -400,21 +402,14 @@ both_by : (a b : Bool) → a ≡ true → (a && b) ≡ b
 both_by true b e = refl
 both_by false b e = absurd cc
 
-named_by : (ends : List End) (line name : List ℕ) → begins line (codes "actor ") ≡ true → name ≡ drop 6 line
+pub named_by : (ends : List End) (line name : List ℕ) → begins line (codes "actor ") ≡ true → name ≡ drop 6 line
     → with_name ends line ≡ (if may_follow ends name then ends ++ bare name ∷ [] else ends)
 unfolding with_name
 named_by ends line name b n =
     ap (λ t. if t then ends ++ bare (drop 6 line) ∷ [] else ends) (both_by (tells_name line) (may_follow ends (drop 6 line)) b)
     ∙ ap (λ w. if may_follow ends w then ends ++ bare w ∷ [] else ends) (sym n)
 
-pub name_refused : (ends : List End) (line name : List ℕ) → begins line (codes "actor ") ≡ true → name ≡ drop 6 line → may_follow ends name ≡ false → ends ≡ with_name ends line
-name_refused ends line name b n m = sym (named_by ends line name b n ∙ ap (λ t. if t then ends ++ bare name ∷ [] else ends) m)
-
-pub name_taken : (ends new : List End) (line name : List ℕ) → begins line (codes "actor ") ≡ true → name ≡ drop 6 line → may_follow ends name ≡ true → new ≡ ends ++ bare name ∷ []
-    → new ≡ with_name ends line
-name_taken ends new line name b n m e = e ∙ sym (named_by ends line name b n ∙ ap (λ t. if t then ends ++ bare name ∷ [] else ends) m)
-
-pub ruleset names = (name_none, name_refused, name_taken)
+pub ruleset names = (name_none)
 
 -- at most eight so far, and those to come
 abbrev pub SoFar : List End → List (List ℕ) → List End → Type 0
@@ -431,17 +426,17 @@ names_over ends all text h l = sym (ap (names_from ends) (only_piece text l)) �
 pub ruleset all_names = (names_more, names_over)
 
 -- ## The whole
-first_at : (l : List ℕ) (ps : List (List ℕ)) → HasPiece ps → first_in (l ∷ ps) ≡ first_by (l ∷ ps) (if begins l (codes "nodes ") then number_within 1 15 (drop 6 l) else None) ps
+first_at : (l : List ℕ) (ps : List (List ℕ)) → HasPiece ps → first_in (l ∷ ps) ≡ first_by (l ∷ ps) (if begins l (codes "nodes ") then number_within 1 most_nodes (drop 6 l) else None) ps
 unfolding first_in
 first_at l [] h = absurd (let e = h.are in cc)
 first_at l (m ∷ ps) h = refl
 
 first_line : (text line rest : List ℕ) → text ≡ line ++ 10 ∷ rest → Lacks 10 line
-    → first_in (pieces text) ≡ first_by (pieces text) (if begins line (codes "nodes ") then number_within 1 15 (drop 6 line) else None) (pieces rest)
+    → first_in (pieces text) ≡ first_by (pieces text) (if begins line (codes "nodes ") then number_within 1 most_nodes (drop 6 line) else None) (pieces rest)
 first_line text line rest e l =
     let p : pieces text ≡ line ∷ pieces rest = first_piece text line rest e l in
     ap first_in p ∙ first_at line (pieces rest) (has_piece rest)
-    ∙ ap (λ ps. first_by ps (if begins line (codes "nodes ") then number_within 1 15 (drop 6 line) else None) (pieces rest)) (sym p)
+    ∙ ap (λ ps. first_by ps (if begins line (codes "nodes ") then number_within 1 most_nodes (drop 6 line) else None) (pieces rest)) (sym p)
 
 pub first_missed : (text : List ℕ) → Lacks 10 text → IsBroken (first_in (pieces text)) (length text) rule.FirstLine
 unfolding first_in
@@ -452,23 +447,23 @@ first_missed text l =
 pub first_other : (text line rest : List ℕ) → text ≡ line ++ 10 ∷ rest → Lacks 10 line → begins line (codes "nodes ") ≡ false → IsBroken (first_in (pieces text)) (length text) rule.FirstLine
 first_other text line rest e l b =
     broken_here (first_in (pieces text)) text rule.FirstLine
-    (first_line text line rest e l ∙ ap (λ t. first_by (pieces text) (if t then number_within 1 15 (drop 6 line) else None) (pieces rest)) b)
+    (first_line text line rest e l ∙ ap (λ t. first_by (pieces text) (if t then number_within 1 most_nodes (drop 6 line) else None) (pieces rest)) b)
 
-first_told : (text line rest word : List ℕ) (o : Option ℕ) → text ≡ line ++ 10 ∷ rest → Lacks 10 line → begins line (codes "nodes ") ≡ true → word ≡ drop 6 line → o ≡ number_within 1 15 word
+first_told : (text line rest word : List ℕ) (o : Option ℕ) → text ≡ line ++ 10 ∷ rest → Lacks 10 line → begins line (codes "nodes ") ≡ true → word ≡ drop 6 line → o ≡ number_within 1 most_nodes word
     → first_in (pieces text) ≡ first_by (pieces text) o (pieces rest)
 first_told text line rest word o e l b w n =
-    first_line text line rest e l ∙ ap (λ t. first_by (pieces text) (if t then number_within 1 15 (drop 6 line) else None) (pieces rest)) b
-    ∙ ap (λ v. first_by (pieces text) (number_within 1 15 v) (pieces rest)) (sym w) ∙ ap (λ q. first_by (pieces text) q (pieces rest)) (sym n)
+    first_line text line rest e l ∙ ap (λ t. first_by (pieces text) (if t then number_within 1 most_nodes (drop 6 line) else None) (pieces rest)) b
+    ∙ ap (λ v. first_by (pieces text) (number_within 1 most_nodes v) (pieces rest)) (sym w) ∙ ap (λ q. first_by (pieces text) q (pieces rest)) (sym n)
 
-pub first_bad : (text line rest word : List ℕ) → text ≡ line ++ 10 ∷ rest → Lacks 10 line → begins line (codes "nodes ") ≡ true → word ≡ drop 6 line → is_number 1 15 word ≡ false
+pub first_bad : (text line rest word : List ℕ) → text ≡ line ++ 10 ∷ rest → Lacks 10 line → begins line (codes "nodes ") ≡ true → word ≡ drop 6 line → is_number 1 most_nodes word ≡ false
     → IsBroken (first_in (pieces text)) (length text) rule.FirstLine
 first_bad text line rest word e l b w n =
     broken_here (first_in (pieces text)) text rule.FirstLine (first_told text line rest word None e l b w (sym (ap (λ t. if t then Some (digits_value 10 word) else None) n)))
 
-pub first_taken : (text line rest word : List ℕ) (nodes : ℕ) → text ≡ line ++ 10 ∷ rest → Lacks 10 line → begins line (codes "nodes ") ≡ true → word ≡ drop 6 line → Tells 1 15 word nodes
+pub first_taken : (text line rest word : List ℕ) (nodes : ℕ) → text ≡ line ++ 10 ∷ rest → Lacks 10 line → begins line (codes "nodes ") ≡ true → word ≡ drop 6 line → Tells 1 most_nodes word nodes
     → first_in (pieces text) ≡ Taken nodes (pieces rest)
 first_taken text line rest word nodes e l b w n =
-    let high = n.3 in first_told text line rest word (Some nodes) e l b w (within_by 1 15 word nodes (omega (arith, high)) n)
+    let high = n.3 in first_told text line rest word (Some nodes) e l b w (within_by 1 most_nodes word nodes (omega (arith, high)) n)
 
 pub ruleset firsts = (first_missed, first_other, first_bad, first_taken)
 

@@ -12,7 +12,8 @@ use Rattle.report_judge.specs.declared.judgement.Judgement.{Judgement}
 use Rattle.report_judge.specs.declared.judgement.Judgement.TheVariants as judgement
 use Rattle.report_judge.specs.Reads.{ends_line, IsReportOf}
 use Rattle.report_judge.specs.Pieces.{pieces, Taken, IsBroken}
-use Rattle.report_judge.specs.Reading.{bare, names_from, ListsView, lists_in, printed}
+use Rattle.report_judge.specs.Callers.{bare}
+use Rattle.report_judge.specs.Reading.{names_from, ListsView, lists_in, printed}
 use Rattle.report_judge.specs.Written.{AreWritten, NoReport}
 
 -- ## The first line that breaks a rule

@@ -10,7 +10,8 @@ use Rattle.mesh_judge.specs.declared.part.Part.{Part}
 use Rattle.mesh_judge.specs.declared.part.Part.TheVariants as part
 use Rattle.mesh_judge.specs.Broken.{BreaksFirst}
 use Rattle.report_judge.specs.declared.answer.Lists.{Lists}
-use Rattle.report_judge.specs.Reads.{IsReportOf, IsLine}
+use Rattle.report_judge.specs.Reads.{IsReadAs, IsLine}
+use Rattle.report_judge.specs.Written.{NoReport}
 use Rattle.report_judge.specs.Places.{TellsPlace}
 use Rattle.report_judge.specs.declared.judgement.Finding.{Finding}
 use Rattle.report_judge.specs.declared.judgement.Judgement.{Judgement}
@@ -27,7 +28,7 @@ JudgesLists lists (judgement.Bad line rule) = ⊥
 -- finalised segments agree.
 pub record OfAgreeing (bytes : List ℕ) : Type 0 where
   pub lists : Lists
-  pub is_report : IsReportOf bytes lists
+  pub is_read : IsReadAs bytes lists
   pub agrees : Agrees lists.mesh
   pub run : IsRun lists.mesh.nodes (epoch_order lists.mesh)
   pub safe : IsSafe lists.mesh.nodes (epoch_order lists.mesh)
@@ -45,7 +46,7 @@ marked_by m plan = record m { plan = plan }
 -- doesn't speak of marks they agree with no others either.
 pub record OfDisagreeing (bytes : List ℕ) (broken : Part) : Type 0 where
   pub lists : Lists
-  pub is_report : IsReportOf bytes lists
+  pub is_read : IsReadAs bytes lists
   pub breaks : BreaksFirst broken lists.mesh
   pub apart : Agrees lists.mesh → ⊥
   pub others : is_markless broken ≡ true → (plan : List (List Mark)) → length plan ≡ length lists.mesh.plan → Agrees (marked_by lists.mesh plan) → ⊥
@@ -59,13 +60,21 @@ Judges bytes (judgement.Bad line rule) = IsLine bytes line
 -- that is told is where.
 pub record OfPlace (bytes : List ℕ) (found : Finding) : Type 0 where
   pub lists : Lists
-  pub is_report : IsReportOf bytes lists
+  pub is_read : IsReadAs bytes lists
   pub breaks : BreaksFirst found.part lists.mesh
   pub place : TellsPlace lists found
 
 abbrev pub Places : List ℕ → Judgement → Type 0
 Places bytes (judgement.Disagrees found) = OfPlace bytes found
 Places bytes _ = Unit {0}
+
+-- ## One verdict
+-- Bytes of which lists are read are called bad by none; and lists that agree under some marks are
+-- told to break no part but that of marks.
+pub record VerdictsExclude : Type 0 where
+  pub agrees_or_bad : (bytes : List ℕ) → OfAgreeing bytes → NoReport bytes → ⊥
+  pub disagrees_or_bad : (bytes : List ℕ) (broken : Part) → OfDisagreeing bytes broken → NoReport bytes → ⊥
+  pub agrees_or_disagrees : (bytes : List ℕ) (broken : Part) → is_markless broken ≡ true → OfAgreeing bytes → OfDisagreeing bytes broken → ⊥
 
 -- ## In words
 abbrev pub part_word : Part → List ℕ

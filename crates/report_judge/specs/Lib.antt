@@ -9,3 +9,4 @@ pub mod Rows
 pub mod Reading
 pub mod Written
 pub mod Complete
+pub mod Worked

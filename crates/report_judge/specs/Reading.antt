@@ -2,6 +2,7 @@
 use Rattle.std.specs.Prelude.{ℕ, zero, suc, ◌+◌, ◌&&◌, nat_lt, nat_le, not, Bool, true, List, [], ◌∷◌, ◌++◌, length, drop, Option, Some, None, is_none, if◌then◌else◌, codes}
 use Rattle.std.specs.Str.{bytes_eq}
 use Rattle.std.specs.Str.Parse.{digits_value}
+use Rattle.journal_core.specs.Nodes.{most_nodes}
 use Rattle.base_words.specs.WordNumbers.{is_number}
 use Rattle.journal_text.specs.Reading.{number_in}
 use Rattle.journal_history.specs.declared.node_ask.NodeAsk.{NodeAsk}
@@ -16,12 +17,12 @@ use Rattle.play_report.specs.Summary.{begins}
 use Rattle.play_report.specs.Text.{operator, text_of}
 use Rattle.report_judge.specs.declared.rules.Rule.TheVariants as rule
 use Rattle.report_judge.specs.Lines.{ask_in, answered_in, recorded_in, outcome_in}
-use Rattle.report_judge.specs.Callers.{caller_in}
+use Rattle.report_judge.specs.Callers.{bare, caller_in}
 use Rattle.report_judge.specs.Cuts.{cut_in, has_arrow, arrow_in}
 use Rattle.report_judge.specs.Rows.{row_in}
 use Rattle.report_judge.specs.declared.actors.Callers.{Callers}
 use Rattle.report_judge.specs.declared.answer.Lists.{Lists}
-use Rattle.report_judge.specs.Pieces.{Front, Taken, Broken, line_if, is_next, lines_while, then_}
+use Rattle.report_judge.specs.Pieces.{pieces, Front, Taken, Broken, line_if, is_next, lines_while, then_}
 
 -- ## A line of a history
 abbrev pub answered_by : ℕ → NodeAsk → Option NodeAnswer → Option HistoryLine
@@ -183,9 +184,9 @@ callers_in nodes names c ps =
 abbrev pub may_follow : List End → List ℕ → Bool
 may_follow ends name = nat_lt (length ends) 8 && (is_name name && is_none (caller_in ends name))
 
--- an actor of which nothing more is told
-abbrev pub bare : List ℕ → End
-bare name = record { name = name; last = None }
+-- one more actor of that name, if it may have it
+abbrev pub with_next : List End → List ℕ → List End
+with_next ends name = if may_follow ends name then ends ++ bare name ∷ [] else ends
 
 -- one more, if the line tells its name and it may have it
 unfoldable pub with_name : List End → List ℕ → List End
@@ -206,7 +207,7 @@ first_by here (Some nodes) rest = Taken nodes rest
 unfoldable pub first_in : List (List ℕ) → Front ℕ
 first_in [] = Broken [] rule.FirstLine
 first_in (l ∷ []) = Broken (l ∷ []) rule.FirstLine
-first_in (l ∷ m ∷ ps) = first_by (l ∷ m ∷ ps) (if begins l (codes "nodes ") then number_within 1 15 (drop 6 l) else None) (m ∷ ps)
+first_in (l ∷ m ∷ ps) = first_by (l ∷ m ∷ ps) (if begins l (codes "nodes ") then number_within 1 most_nodes (drop 6 l) else None) (m ∷ ps)
 
 -- the lists of a report, without marks
 pub record ListsView : Type 0 where
@@ -231,3 +232,14 @@ shown lists = record { nodes = lists.mesh.nodes; histories = lists.mesh.historie
 -- the report of these lists
 abbrev pub printed : ListsView → List ℕ
 printed v = text_of (record { nodes = v.nodes; histories = v.histories; records = v.callers.records; plan = [] }) v.callers.ends
+
+-- ## The lists in the bytes
+-- those that the lines say, if they are printed as the bytes
+abbrev pub read_back : List ℕ → Front ListsView → Option ListsView
+read_back bytes (Taken view []) = if bytes_eq bytes (printed view) then Some view else None
+read_back bytes (Taken view (p ∷ ps)) = None
+read_back bytes (Broken left rule) = None
+
+-- the lists of which the bytes are the report, if they are one
+unfoldable pub lists_of : List ℕ → Option ListsView
+lists_of bytes = read_back bytes (lists_in (pieces bytes))

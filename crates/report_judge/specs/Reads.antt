@@ -1,9 +1,10 @@
 -- What comes of reading a report.
-use Rattle.std.specs.Prelude.{ℕ, ◌≡◌, ◌+◌, ◌≤◌, ◌==◌, Bool, List, count_by}
+use Rattle.std.specs.Prelude.{ℕ, ◌≡◌, ◌+◌, ◌-◌, ◌≤◌, ◌==◌, Bool, List, Some, count_by, length}
 use Rattle.play_report.specs.Text.{text_of}
 use Rattle.report_judge.specs.declared.answer.Reading.{Reading}
 use Rattle.report_judge.specs.declared.answer.Reading.TheVariants as reading
 use Rattle.report_judge.specs.declared.answer.Lists.{Lists}
+use Rattle.report_judge.specs.Reading.{shown, lists_of}
 
 -- the bytes are the report of these lists
 abbrev pub IsReportOf : List ℕ → Lists → Type 0
@@ -20,7 +21,14 @@ IsLine bytes line = (1 ≤ line) × (line ≤ count_by ends_line bytes + 1)
 abbrev pub IsRule : ℕ → Type 0
 IsRule rule = (1 ≤ rule) × (rule ≤ 9)
 
--- What is read are lists of which the bytes are the report. What breaks a rule is a line of theirs.
+-- They are the lists in the bytes, of which the bytes are the report, with marks for each of their
+-- actors.
+pub record IsReadAs (bytes : List ℕ) (lists : Lists) : Type 0 where
+  pub is_report : IsReportOf bytes lists
+  pub are : lists_of bytes ≡ Some (shown lists)
+  pub sized : length lists.mesh.plan ≡ length lists.mesh.records - 1
+
+-- What is read are the lists in the bytes. What breaks a rule is a line of theirs.
 abbrev pub Tells : List ℕ → Reading → Type 0
-Tells bytes (reading.Read lists) = IsReportOf bytes lists
+Tells bytes (reading.Read lists) = IsReadAs bytes lists
 Tells bytes (reading.Bad line rule) = IsLine bytes line × IsRule rule

@@ -1,6 +1,7 @@
 -- Lists that have a report which is read.
 use Rattle.std.specs.Prelude.{ℕ, ◌≡◌, ◌≢◌, ◌<◌, ◌≤◌, ◌^◌, true, List, [], ◌∷◌, length, Option, Some, None}
 use Rattle.std.specs.List.{AllByRecursion}
+use Rattle.journal_core.specs.Nodes.{PermittedNodes}
 use Rattle.journal_core.specs.Peers.{FitsHeard}
 use Rattle.journal_core.specs.declared.request.Request.{Request}
 use Rattle.journal_core.specs.declared.heard.Heard.TheVariants.{Answer}
@@ -25,6 +26,7 @@ use Rattle.ns_tree.specs.declared.end.End.{End}
 use Rattle.play_script.specs.Lines.{Lacks}
 use Rattle.play_script.specs.Words.{is_name}
 use Rattle.report_judge.specs.declared.answer.Lists.{Lists}
+use Rattle.report_judge.specs.Reading.{lists_of}
 use Rattle.report_judge.specs.Reads.{IsReportOf}
 
 -- ## Lines
@@ -111,11 +113,10 @@ abbrev pub AreNamed : List End → Type 0
 AreNamed [] = Unit {0}
 AreNamed (e ∷ ends) = (is_name e.name ≡ true) × AllByRecursion (λ (other : End). other.name ≢ e.name) ends × AreNamed ends
 
--- Lists within the limits: one to 15 nodes with a history each, at most eight actors with names of
--- their own, and a record for each of them and one for the operator.
+-- Lists within the limits: a permitted number of nodes with a history each, at most eight actors
+-- with names of their own, and a record for each of them and one for the operator.
 pub record AreWritten (lists : Lists) : Type 0 where
-  pub some : 1 ≤ lists.mesh.nodes
-  pub few : lists.mesh.nodes ≤ 15
+  pub permitted : PermittedNodes lists.mesh.nodes
   pub histories : length lists.mesh.histories ≡ lists.mesh.nodes
   pub history_lines : AllByRecursion (AllByRecursion (IsHistoryLine (length lists.ends))) lists.mesh.histories
   pub actors : length lists.ends ≤ 8
@@ -124,6 +125,7 @@ pub record AreWritten (lists : Lists) : Type 0 where
   pub records : length lists.ends < length lists.mesh.records
   pub record_lines : AllByRecursion (AllByRecursion (IsRecordLine lists.mesh.nodes)) lists.mesh.records
 
--- the bytes are no report of lists within the limits
-abbrev pub NoReport : List ℕ → Type 0
-NoReport bytes = (lists : Lists) → AreWritten lists → IsReportOf bytes lists → ⊥
+-- no lists are read of the bytes, and they are no report of lists within the limits
+pub record NoReport (bytes : List ℕ) : Type 0 where
+  pub none : lists_of bytes ≡ None
+  pub of_none : (lists : Lists) → AreWritten lists → IsReportOf bytes lists → ⊥

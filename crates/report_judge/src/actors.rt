@@ -4,6 +4,7 @@ ghost use Rattle.report_judge.specs.Pieces.{pieces, Taken, Stops};
 ghost use Rattle.report_judge.specs.Reading.{actor_in, actors_in, operator_in, callers_in};
 
 use crate::last_space::read_last;
+use crate::names::Names;
 use crate::records::{after_name, is_end, is_name_next, read_record};
 use crate::requests::Requests;
 use crate::unread::Unread;
@@ -48,7 +49,7 @@ fn read_actor<'a>(
 fn read_actors<'a>(
     requests: &mut Requests<'a>,
     nodes: usize,
-    names: &[End],
+    names: &Names<'_>,
     text: &'a [u8],
     callers: &mut Callers,
 ) -> Result<&'a [u8], Unread>
@@ -56,8 +57,8 @@ fn read_actors<'a>(
     ensures stopped { IfErr result (λ e. Stops (actors_in nodes names.now callers.old (pieces text.now)) e) }
 {
     let mut rest = text;
-    for end in names {
-        let name = end.name.as_slice();
+    for index in 0..names.len() {
+        let name = names.name_at(index);
         let lines = after_name(name, rest)?;
         rest = read_actor(requests, nodes, name, lines, callers)?;
     }
@@ -92,7 +93,7 @@ fn read_operator<'a>(
 pub(crate) fn read_callers<'a>(
     requests: &mut Requests<'a>,
     nodes: usize,
-    names: &[End],
+    names: &Names<'_>,
     text: &'a [u8],
     callers: &mut Callers,
 ) -> Result<(), Unread>

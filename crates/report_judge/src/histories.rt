@@ -6,13 +6,13 @@ ghost use Rattle.report_judge.specs.Reading.{history_in, is_header, header_in, n
 use crate::asks::after;
 use crate::cutting::has_arrow;
 use crate::history_line::read_history_line;
+use crate::names::Names;
 use crate::requests::Requests;
 use crate::rules::Rule;
 use crate::unread::Unread;
 use base_words::number_of;
 use journal_history::HistoryList;
 use mesh::HistoryTable;
-use ns_tree::End;
 use play_script::split_line;
 
 /// The lines of one node's history, which go on to the first line that has no `>`. They are put
@@ -20,7 +20,7 @@ use play_script::split_line;
 #[tactic(auto, using(crate::proofs::ReadLaws::histories))]
 fn read_history<'a>(
     requests: &mut Requests<'a>,
-    ends: &[End],
+    ends: &Names<'_>,
     text: &'a [u8],
     history: &mut HistoryList,
 ) -> Result<&'a [u8], Unread>
@@ -73,7 +73,7 @@ fn after_header(node: u64, text: &[u8]) -> Result<&[u8], Unread>
 #[tactic(auto, using(crate::proofs::ReadLaws::nodes))]
 pub(crate) fn read_nodes<'a>(
     requests: &mut Requests<'a>,
-    ends: &[End],
+    ends: &Names<'_>,
     nodes: usize,
     text: &'a [u8],
     histories: &mut HistoryTable,

@@ -4,19 +4,18 @@ ghost use Rattle.report_judge.specs.Reading.{history_line_in};
 
 use crate::answers::read_answer;
 use crate::asks::read_ask;
-use crate::callers::caller_of;
 use crate::cutting::{cut_arrow, cut_at};
+use crate::names::Names;
 use crate::requests::Requests;
 use journal_core::OutOfMemory;
 use journal_history::HistoryLine;
-use ns_tree::End;
 
 /// The line of a history that the bytes say, without their LF; `None` where they say none. An `Err`
 /// is lack of memory.
 #[tactic(auto, unfolding(crate::specs::Reading::history_line_in))]
 pub(crate) fn read_history_line<'a>(
     requests: &mut Requests<'a>,
-    ends: &[End],
+    ends: &Names<'_>,
     line: &'a [u8],
 ) -> Result<Option<HistoryLine>, OutOfMemory>
     requires { length ends.now ≤ 8 }
@@ -25,7 +24,7 @@ pub(crate) fn read_history_line<'a>(
     let Some((name, rest)) = cut_at(b' ', line) else {
         return Ok(None);
     };
-    let Some(caller) = caller_of(ends, name) else {
+    let Some(caller) = ends.caller_of(name) else {
         return Ok(None);
     };
     let Some((asked, answered)) = cut_arrow(rest) else {

@@ -1,4 +1,6 @@
 //! The plan of a report: the marks that its records tell.
+ghost use Rattle.std.specs.Prelude.{◌≡◌, ◌-◌, IfOk, length};
+
 use base_words::put_decimal;
 use journal_core::{OutOfMemory, Request};
 use journal_history::{
@@ -143,7 +145,9 @@ pub(crate) fn plan_told(
     alloc: Global,
     nodes: usize,
     records: &[RecordList],
-) -> Result<Plan, OutOfMemory> {
+) -> Result<Plan, OutOfMemory>
+    ensures sized { IfOk result (λ plan. length plan ≡ length records.now - 1) }
+{
     let mut plan = Plan::new(alloc);
     let Some((_, actors)) = records.split_last() else {
         return Ok(plan);

@@ -1,6 +1,6 @@
 //! A report is read as a whole.
-ghost use Rattle.std.specs.Prelude.{◌≡◌, ◌≤◌, ◌+◌, [], IfOk, IfErr, MatchOption, count_by, length, take};
-ghost use Rattle.report_judge.specs.Reads.{ends_line, IsLine, IsReportOf, Tells};
+ghost use Rattle.std.specs.Prelude.{◌≡◌, ◌≤◌, ◌+◌, ◌-◌, [], IfOk, IfErr, MatchOption, count_by, length, take};
+ghost use Rattle.report_judge.specs.Reads.{ends_line, IsLine, IsReadAs, Tells};
 ghost use Rattle.report_judge.specs.Pieces.{pieces, Taken, IsBroken, Stops};
 ghost use Rattle.report_judge.specs.Reading.{no_callers, first_in, lists_in, shown, read_as};
 ghost use Rattle.report_judge.specs.Complete.{IsUnread, IsComplete};
@@ -14,16 +14,12 @@ use crate::plan::plan_told;
 use crate::requests::Requests;
 use crate::rules::Rule;
 use crate::unread::Unread;
-use base_words::number_of;
-use journal_core::OutOfMemory;
+use journal_core::{OutOfMemory, permitted_nodes};
 use mesh::{HistoryTable, Mesh, RecordTable};
 use ns_tree::EndList;
 use play_report::parting;
 use play_script::split_line;
 use std::alloc::{AllocError, Global};
-
-/// The most nodes.
-const MOST_NODES: u64 = 15;
 
 /// The nodes that the first line tells, from one to 15, and what follows it; `None` where it is no
 /// `nodes N`.
@@ -33,7 +29,7 @@ fn split_nodes(bytes: &[u8]) -> Option<(usize, &[u8])>
 {
     let (line, rest) = split_line(bytes)?;
     let word = after(line, b"nodes ")?;
-    let nodes = number_of(word, 1, MOST_NODES)?;
+    let nodes = permitted_nodes(word)?;
     Some((nodes as usize, rest))
 }
 
@@ -55,8 +51,8 @@ fn read_parts(
     };
     let names = names_in(alloc, text)?;
     let mut requests = Requests::new(alloc, bytes.len())?;
-    let rest = read_nodes(&mut requests, names.as_slice(), nodes, text, histories)?;
-    read_callers(&mut requests, nodes, names.as_slice(), rest, callers)?;
+    let rest = read_nodes(&mut requests, &names, nodes, text, histories)?;
+    read_callers(&mut requests, nodes, &names, rest, callers)?;
     Ok(nodes)
 }
 
@@ -64,6 +60,7 @@ fn read_parts(
 #[tactic(auto, using(crate::proofs::ReadLaws::reads))]
 fn read_lists(alloc: Global, bytes: &[u8]) -> Result<Lists, Unread>
     ensures taken { IfOk result (λ lists. lists_in (pieces bytes.now) ≡ Taken (shown lists) []) }
+    ensures sized { IfOk result (λ lists. length lists.mesh.plan ≡ length lists.mesh.records - 1) }
     ensures stopped { IfErr result (λ e. Stops (lists_in (pieces bytes.now)) e) }
 {
     let mut callers = Callers {
@@ -88,7 +85,7 @@ fn read_lists(alloc: Global, bytes: &[u8]) -> Result<Lists, Unread>
 /// The lists of a report, which is printed of them: the bytes are compared with it line by line.
 #[tactic(auto, using(crate::proofs::Complete::unreads))]
 fn read_printed(alloc: Global, bytes: &[u8]) -> Result<Lists, Unread>
-    ensures same { IfOk result (λ lists. IsReportOf bytes.now lists) }
+    ensures same { IfOk result (λ lists. IsReadAs bytes.now lists) }
     ensures unread { IfErr result (λ e. IsUnread bytes.now e) }
 {
     let lists = read_lists(alloc, bytes)?;

@@ -22,3 +22,6 @@ returns-in-All-clause-fault g c =
     fault_is _ c.in-All.bytes.items of (read_report _ c.in-All.bytes.items c.in-All.ensures.all (c.in-All.ensures.no_fault (λ e. cc e)) c.in-All.ensures.within)
     (subst (λ (bytes : List ℕ). IsFaultOf bytes of) c.deref.ensures.value is))
     c.due_of_report.ensures.fault
+
+pub returns-in-OutOfMemory-clause-fault : goal.returns-in-OutOfMemory-clause-fault
+returns-in-OutOfMemory-clause-fault g c = c.in-OutOfMemory.ensures.no_fault (λ e. cc e)
