@@ -81,7 +81,7 @@ build() {
   fi
   require_kit
   mkdir -p "$top/crates/qjm/out"
-  rm -f "$program" "$program.by-rattle" "$sources_built"
+  forget_program
   build_began=$(date +%s) crate_count=$(list_crates | wc -l) shown='' shown_step=''
   sum=$(sum_sources)
   jobs=$(count_jobs)
@@ -95,7 +95,12 @@ build() {
     tell_failure
     return "$NOT_BUILT"
   fi
-  echo "$sum" >"$sources_built"
-  rt version >"$proved_with"
+  note_sources "$program"
+  if [ "$(cat "$sources_built")" != "$sum" ]; then
+    forget_program
+    say "not built: the sources changed meanwhile"
+    return "$NOT_BUILT"
+  fi
+  write_record "$(rt version)" >"$program.record"
   say "proved and built in $((($(date +%s) - build_began) / 60)) minutes"
 }

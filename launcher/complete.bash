@@ -6,11 +6,12 @@
 # The words that may stand at the cursor, behind those before it.
 _qjm_words() {
   case $COMP_CWORD,${COMP_WORDS[1]-} in
-    1,*) echo 'play run piped mirror boot gen node serve lead cluster fsck judge oev oiv draw rules test help --build --version --help' ;;
-    2,help) echo 'play run piped mirror boot gen node serve lead cluster fsck judge oev oiv draw rules test --build' ;;
+    1,*) echo 'play run piped mirror boot gen node serve lead cluster fsck judge oev oiv draw rules test help --build --package --use --version --help' ;;
+    2,help) echo 'play run piped mirror boot gen node serve lead cluster fsck judge oev oiv draw rules test --build --package --use --version' ;;
     2,oev) echo 'list stats json back' ;;
     2,oiv) echo 'delimited sizes json' ;;
     2,node) echo '--unchecked' ;;
+    2,--version) echo '--check' ;;
     2,cluster) echo 'up status log tell failover checkpoint trim kill hold release down' ;;
     *,draw) echo '--svg --whole' ;;
   esac
@@ -23,6 +24,7 @@ _qjm() {
     2,play | 2,run | 2,piped | 2,mirror | 2,boot) pattern='*.qjm' ;;
     3,oev) [ "${COMP_WORDS[2]}" = back ] && pattern='*' || pattern='edits_*' ;;
     3,oiv) pattern='fsimage_*' ;;
+    2,--use) pattern='qjm[-_]*' ;;
   esac
   [ -z "$pattern" ] || mapfile -t COMPREPLY < <(compgen -f -X "!$pattern" -- "$word"; compgen -d -- "$word")
 }

@@ -78,7 +78,6 @@ name_from_root() {
 
 # Runs the sources without a proof on descriptor 3. Fails where that gave no answer of the program's own.
 try_sources() {
-  say "a quick run of the sources, not of the proved program: it takes a minute or so (./qjm --build makes that, once)"
   case $#$1 in
     3oev | 3oiv) set -- "$1" "$2" "$(name_from_root "$3")" ;;
     5oev) set -- "$1" "$2" "$(name_from_root "$3")" "$4" "$5" ;;
@@ -99,16 +98,45 @@ try_or_refuse() {
     return
   fi
   require_room
+  tell_notes
+  refuse_unbuilt "the proved program has no such limits"
+}
+
+# Says what the kit said of a quick run that gave no answer.
+tell_notes() {
   say "the quick run gave no answer; it said:"
   grep '^checked: ' "$room/notes" >&2 || tail -n 3 "$room/notes" >&2
-  refuse_unbuilt "the proved program has no such limits"
 }
 
 # Ends the launcher where a command wants the proved program and that isn't built: a build is begun by nothing but its own word.
 refuse_unbuilt() {
   say "$1, and it isn't built yet"
-  say "\`./qjm --build\` proves and builds it, once, in $(foretell_build)"
+  say "\`./qjm --build\` proves and builds it, once, in $(foretell_build); \`./qjm --use FILE\` takes it out of a package"
   exit "$NOT_BUILT"
+}
+
+# Chooses the program that answers: the proved one, else the quick one, which is compiled where it isn't kept. Each answer of the
+# quick one says what it is. Fails where it can't be kept.
+choose_program() {
+  ! is_proved || return 0
+  if is_quick_kept; then
+    say "answered by the sources, compiled without a proof: \`./qjm --build\` makes the proved program"
+  else
+    require_kit
+    say "the sources are compiled without a proof, in a minute or two$(! can_keep || echo ', and kept until they change')" \
+      "(./qjm --build makes the proved program)"
+    keep_quick || return
+  fi
+  program=$quick_program
+  # (a quick run has no environment, and the program's checks read these)
+  unset ASAN_OPTIONS LSAN_OPTIONS
+}
+
+# Says, where the quick program stopped by one of its checks, what that means.
+tell_fault_of_sources() {
+  [ "$program" != "${quick_program-}" ] || is_among "$status" '0 1 2 3 4 5 6 7 8 9 75 129 130 137 143' ||
+    say "the quick program stopped with status $status: a fault of the sources, which \`rt try -- $*\` in crates/qjm tells," \
+      "or a limit of the address space (ulimit -v), under which its checks can't work"
 }
 
 # Runs the program's command, explains a status that isn't 0, and ends with the status.
@@ -118,8 +146,9 @@ run_or_try() {
     judge) greet_terminal 'a report' ;;
   esac
   open_input "${1-}"
-  if is_proved; then
+  if choose_program; then
     run_program "$@"
+    tell_fault_of_sources "$@"
   else
     try_or_refuse "$@"
   fi
@@ -154,10 +183,14 @@ run_in_cluster() {
   exit "$status"
 }
 
-# Checks the current folder, of the proved program alone: a quick run sees no folder but its own.
+# Checks the current folder, of the proved program or of the one that is kept: a quick run sees no folder but its own.
 check_folder() {
-  is_proved || refuse_unbuilt "a folder is checked by the proved program alone"
+  if ! choose_program; then
+    [ ! -s "$room/notes" ] || tell_notes
+    refuse_unbuilt "a folder is checked by a program that is kept, and the quick one couldn't be"
+  fi
   find_findings
+  tell_fault_of_sources fsck
   [ -z "$shown" ] || printf '%s\n' "$shown" | cat 2>/dev/null || status=7
   tell_check
   exit "$status"

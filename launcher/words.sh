@@ -1,7 +1,12 @@
 # The words after ./qjm: which of them are a command's, and the help of each.
 
 # The program's commands, and those that the launcher answers itself.
-readonly PROGRAM_COMMANDS='play run piped mirror boot gen node serve lead oev oiv fsck judge' OWN_COMMANDS='draw cluster rules test help'
+readonly PROGRAM_COMMANDS='play run piped mirror boot gen node serve lead oev oiv fsck judge'
+if is_installed; then
+  readonly OWN_COMMANDS='draw cluster rules help' OWN_OPTIONS='--version'
+else
+  readonly OWN_COMMANDS='draw cluster rules test help' OWN_OPTIONS='--build --package --use --version'
+fi
 readonly SEGMENT_LISTINGS='list stats json' IMAGE_LISTINGS='delimited sizes json'
 
 # The greatest number that a word may be.
@@ -96,6 +101,9 @@ legal_words() {
     3oev,back) echo "START is from 1 to $GREATEST, without a leading zero" ;;
     4oev,back) echo "EPOCH is from 1 to $GREATEST, without a leading zero" ;;
     1serve,*) echo "CLIENTS is from 1 to 64" ;;
+    1--version,*) echo 'after `--version` comes nothing, or `--check`' ;;
+    1--use,*) echo "the name of a package's file comes last" ;;
+    2--package,*) echo 'after `--package` comes nothing, or the name of one folder' ;;
     1lead,*) echo "NODES is from 1 to 15" ;;
     1gen,*) echo "NUMBER is from 0 to $GREATEST, without a leading zero" ;;
     2gen,*) echo "EDITS is from 0 to 10000, without a leading zero" ;;
@@ -140,8 +148,13 @@ reads_script() {
 # Shows the text of a command, or the whole one.
 show_help() {
   case ${1-} in
-    '' | help) cat "$top/launcher/help/qjm.txt" ;;
-    --build | build) cat "$top/launcher/help/build.txt" ;;
-    *) is_among "$1" "$PROGRAM_COMMANDS $OWN_COMMANDS" || refuse_words 1 help "$1"; cat "$top/launcher/help/$1.txt" ;;
+    '' | help)
+      cat "$top/launcher/help/qjm.txt"
+      is_installed || cat "$top/launcher/help/clone.txt"
+      ;;
+    *)
+      is_among "$1" "$PROGRAM_COMMANDS $OWN_COMMANDS $OWN_OPTIONS" || is_among "--$1" "$OWN_OPTIONS" || refuse_words 1 help "$1"
+      cat "$top/launcher/help/${1#--}.txt"
+      ;;
   esac
 }
