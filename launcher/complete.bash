@@ -9,7 +9,7 @@ _qjm_words() {
     1,*) echo 'play run piped mirror boot gen node serve lead cluster fsck judge oev oiv draw rules test help --build --package --use --version --help' ;;
     2,help) echo 'play run piped mirror boot gen node serve lead cluster fsck judge oev oiv draw rules test --build --package --use --version' ;;
     2,oev) echo 'list stats json back' ;;
-    2,oiv) echo 'delimited sizes json' ;;
+    2,oiv) echo 'delimited sizes json ls' ;;
     2,node) echo '--unchecked' ;;
     2,--version) echo '--check' ;;
     2,cluster) echo 'up status log tell failover checkpoint trim kill hold release down' ;;

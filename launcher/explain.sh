@@ -161,6 +161,7 @@ as_typed() {
 explain_damage() {
   case $2 in
     NoFile) explain_absence "$3"; return ;;
+    NoPath) explain_missing_path "$3"; return ;;
     Json | Entry) explain_listing "$1" "$2" "$3"; return ;;
   esac
   if [ "$command" = oiv ] && is_segment "$3"; then
@@ -173,6 +174,12 @@ explain_damage() {
     printf '%s, byte %s: %s\n' "$3" "$1" "${words:-$(cell causes "$row" 1)}" | say_lines
     advise_damage "$row" "$3"
   fi
+}
+
+# Says that an image has nothing at a path, and what to do.
+explain_missing_path() {
+  say "$1 has nothing at $asked_path: $(cell causes NoPath 1)"
+  tell_advice causes NoPath 2
 }
 
 # Says why there is no file to be listed.
@@ -234,7 +241,7 @@ explain_bad_file() {
 
 # Says what the status means, what its fault line says, and what to do. Where a reader went away nothing is said.
 explain() {
-  command=${1-} asked_file=${3-} asked_start=${4-}
+  command=${1-} asked_file=${3-} asked_start=${4-} asked_path=${4-}
   [ "$status" -ne 7 ] || ! is_output_a_pipe || return 0
   fault=$(find_fault "$@" 2>/dev/null)
   case $fault in error\ *) ;; *) fault='' ;; esac

@@ -80,6 +80,7 @@ name_from_root() {
 try_sources() {
   case $#$1 in
     3oev | 3oiv) set -- "$1" "$2" "$(name_from_root "$3")" ;;
+    4oiv) set -- "$1" "$2" "$(name_from_root "$3")" "$4" ;;
     5oev) set -- "$1" "$2" "$(name_from_root "$3")" "$4" "$5" ;;
   esac
   make_room

@@ -48,6 +48,18 @@ place_in_back() {
   fi
 }
 
+# The place of the first wrong word of `oiv ls NAME PATH`.
+place_in_ls() {
+  if [ $# -lt 3 ]; then
+    echo 2
+    return
+  fi
+  case ${4-} in
+    /*) [ $# -eq 4 ] || echo 4 ;;
+    *) echo 3 ;;
+  esac
+}
+
 # The place of the first wrong word of `gen NUMBER EDITS NODES`.
 place_in_gen() {
   if ! is_number "${2-}" 0 "$GREATEST"; then
@@ -77,6 +89,7 @@ wrong_place() {
     play,* | run,* | piped,* | mirror,* | boot,* | node,* | fsck,* | judge,*) [ $# -eq 1 ] || echo 1 ;;
     oev,back) place_in_back "$@" ;;
     oev,*) place_in_listing "$SEGMENT_LISTINGS" "$@" ;;
+    oiv,ls) place_in_ls "$@" ;;
     oiv,*) place_in_listing "$IMAGE_LISTINGS" "$@" ;;
     gen,*) place_in_gen "$@" ;;
     serve,*) place_in_counted 64 "$@" ;;
@@ -95,10 +108,12 @@ legal_words() {
     ?draw,*) echo 'after `draw` come --svg, --whole and a title; the report is the standard input: `./qjm draw < FILE`' ;;
     1play,* | 1run,* | 1mirror,* | 1boot,*) echo "after \`$2\` comes nothing, or the name of one file" ;;
     1oev,*) echo "after \`oev\` comes one of $SEGMENT_LISTINGS back" ;;
-    1oiv,*) echo "after \`oiv\` comes one of $IMAGE_LISTINGS" ;;
+    1oiv,*) echo "after \`oiv\` comes one of $IMAGE_LISTINGS ls" ;;
     2oev,back) echo "the name of a listing comes next, then START and EPOCH" ;;
+    2oiv,ls) echo "the name of an image comes next, then PATH" ;;
     2oev,* | 2oiv,*) echo "the name of a file comes last" ;;
     3oev,back) echo "START is from 1 to $GREATEST, without a leading zero" ;;
+    3oiv,ls) echo "PATH comes last, and begins with \`/\`" ;;
     4oev,back) echo "EPOCH is from 1 to $GREATEST, without a leading zero" ;;
     1serve,*) echo "CLIENTS is from 1 to 64" ;;
     1--version,*) echo 'after `--version` comes nothing, or `--check`' ;;

@@ -5,6 +5,7 @@ standard input; and the files that the folder has before the first step.
 """
 import hashlib
 import os
+import re
 import struct
 from dataclasses import dataclass, field
 
@@ -561,7 +562,15 @@ def images(r):
     digest = digest_file(data, name) if r.random() < .3 else None
     data = damaged(r, data)
     files = {name: data, f'{name}.md5': damaged(r, digest or digest_file(data, name))}
-    return Case([(['oiv', way, name], b'') for way in ('delimited', 'sizes', 'json')] + [(['fsck'], b'')], files)
+    listed = [(['oiv', way, name], b'') for way in ('delimited', 'sizes', 'json')] + [(['oiv', 'ls', name, some_path(r, data)], b'') for _ in range(3)]
+    return Case(listed + [(['fsck'], b'')], files)
+
+
+def some_path(r, data):
+    """A path that an image may have, or nearly."""
+    paths = re.findall(rb'/[!-:<-~]*', data)
+    path = r.choice([b'/'] + paths)
+    return r.choice([path, path, path.rsplit(b'/', 1)[0] or b'/', path + b'/', b'/none'])
 
 
 def some_file(r, files):
@@ -644,10 +653,10 @@ def bad_lines(r):
 
 def bad_words(r):
     """Words that make a command, or nearly."""
-    known = ['play', 'run', 'piped', 'mirror', 'boot', 'node', 'fsck', 'oev', 'oiv', 'gen', 'list', 'stats', 'json', 'back', 'delimited', 'sizes', 's', 'none', '', '.', '1', '3', '15', '16', '0', '01', '4611686018427387905', '10001', b'\xff', 'x/y', 's/y']
+    known = ['play', 'run', 'piped', 'mirror', 'boot', 'node', 'fsck', 'oev', 'oiv', 'gen', 'list', 'stats', 'json', 'back', 'delimited', 'sizes', 'ls', '/', '/d', 's', 'none', '', '.', '1', '3', '15', '16', '0', '01', '4611686018427387905', '10001', b'\xff', 'x/y', 's/y']
     words = [r.choice(known) for _ in range(r.randint(0, 4))]
     if r.random() < .6:
-        words = r.choice([['oev', 'list'], ['oev', 'stats'], ['oev', 'back', 's'], ['oev', 'back', 's', '1'], ['oiv', 'json'], ['gen', str(r.randrange(9)), str(r.choice([0, 1, 40])), str(r.randint(1, 16))], ['play'], ['node']]) + words[:2]
+        words = r.choice([['oev', 'list'], ['oev', 'stats'], ['oev', 'back', 's'], ['oev', 'back', 's', '1'], ['oiv', 'json'], ['oiv', 'ls'], ['oiv', 'ls', 's'], ['gen', str(r.randrange(9)), str(r.choice([0, 1, 40])), str(r.randint(1, 16))], ['play'], ['node']]) + words[:2]
     data, _, _ = some_segment(r)
     return Case([(words, b'')], {'s': data})
 

@@ -87,6 +87,7 @@ fn shape(words: &[&str]) -> Result<(), usize> {
         Some("lead") => return shape_with_numbers(words, 1, &[1..=15]),
         Some("oev") if words.get(1) == Some(&"back") => return shape_with_numbers(words, 3, &OF_BACK),
         Some("oev") => &["list", "stats", "json"],
+        Some("oiv") if words.get(1) == Some(&"ls") => return shape_with_path(words),
         Some("oiv") => &["delimited", "sizes", "json"],
         _ => return Err(0),
     };
@@ -113,6 +114,14 @@ fn shape_with_numbers(words: &[&str], first: usize, ranges: &[RangeInclusive<u64
         }
     }
     exact(words, first + ranges.len())
+}
+
+/// A name, and then a path.
+fn shape_with_path(words: &[&str]) -> Result<(), usize> {
+    match words.get(3) {
+        Some(path) if !path.starts_with('/') => Err(3),
+        _ => exact(words, 4),
+    }
 }
 
 /// The numbers of words that have the shape.
@@ -147,6 +156,7 @@ fn run(words: &[&str]) -> Ending {
         ["oiv", "delimited", name] => list_file(name, oiv::delimited),
         ["oiv", "sizes", name] => list_file(name, oiv::sizes),
         ["oiv", "json", name] => list_file(name, oiv::json),
+        ["oiv", "ls", name, path] => list_file(name, |bytes| oiv::ls(bytes, path.as_bytes())),
         ["gen", seed, edits, nodes] => Ending::Ok(generated::summary(number(seed), number(edits), number(nodes) as usize)),
         _ => Ending::Usage(words.len()),
     }
@@ -203,7 +213,7 @@ fn judge() -> Ending {
 }
 
 /// Lists a file of the current folder.
-fn list_file(name: &str, list: fn(&[u8]) -> Result<Vec<u8>, Damage>) -> Ending {
+fn list_file(name: &str, list: impl Fn(&[u8]) -> Result<Vec<u8>, Damage>) -> Ending {
     match read_file(OsStr::new(name)) {
         Ok(bytes) => match list(&bytes) {
             Ok(text) => Ending::Ok(text),

@@ -72,6 +72,49 @@ pub fn json(bytes: &[u8]) -> Result<Vec<u8>, Damage> {
     Ok(text)
 }
 
+/// `oiv ls`: the entries of a directory, or a file.
+pub fn ls(bytes: &[u8], path: &[u8]) -> Result<Vec<u8>, Damage> {
+    let mut entries = Vec::new();
+    let mut own = None;
+    image::read(bytes, |row| {
+        let columns = columns(&row);
+        if row.path == path {
+            own = Some((columns.is_directory, line(&columns)));
+        } else if parent(row.path) == path {
+            entries.push(line(&columns));
+        }
+    })?;
+    let count = entries.len();
+    match own {
+        None => Err(Damage { place: 0, cause: "NoPath" }),
+        Some((false, line)) => Ok(line),
+        Some((true, _)) if count == 0 => Ok(Vec::new()),
+        Some((true, _)) => Ok([format!("Found {count} items\n").into_bytes(), entries.concat()].concat()),
+    }
+}
+
+/// The directory that a path other than the root's stands in.
+fn parent(path: &[u8]) -> &[u8] {
+    match path.iter().rposition(|&byte| byte == b'/') {
+        None | Some(0) => b"/",
+        Some(end) => &path[..end],
+    }
+}
+
+/// The line of an entry.
+fn line(row: &Columns) -> Vec<u8> {
+    let [replication, mtime, _, _, _, bytes] = row.numbers;
+    let copies = if row.is_directory { "-".to_string() } else { replication.to_string() };
+    let mut text = Vec::new();
+    push_permission(&mut text, row.is_directory, row.permission);
+    for column in [copies.as_bytes(), row.user, row.group, bytes.to_string().as_bytes(), mtime.to_string().as_bytes(), row.path] {
+        text.push(b' ');
+        text.extend_from_slice(column);
+    }
+    text.push(b'\n');
+    text
+}
+
 /// An inode's object; the keys stand in the order of their bytes.
 fn push_object(text: &mut Vec<u8>, row: &Columns) {
     let [replication, mtime, atime, block_size, blocks, bytes] = row.numbers;

@@ -3,7 +3,7 @@ use Rattle.std.proofs.Common.{◌≡◌, ℕ, List, [], ◌∷◌, sym, subst}
 use Rattle.std.specs.Prelude.{codes}
 use Rattle.play_script.specs.Words.{greatest}
 use Rattle.base_words.specs.WordNumbers.{Tells}
-use Rattle.cli_commands.specs.declared.tool.Tool.TheVariants as tool
+use Rattle.cli_commands.specs.Tools as tool
 use Rattle.cli_commands.specs.Commands.{list, AskFor}
 
 pub asks_back : (words : List (List ℕ)) (name first second : List ℕ) (start epoch : ℕ) → words ≡ name ∷ first ∷ second ∷ [] → Tells 1 greatest first start → Tells 1 greatest second epoch

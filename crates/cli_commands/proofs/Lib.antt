@@ -1,7 +1,9 @@
 pub mod ToldLaws
 pub mod GenLaws
 pub mod BackLaws
+pub mod LsLaws
 pub mod WordLaws
+pub mod OneCommand
 pub mod ListLaws
 pub mod OneListing
 pub mod CheckLaws

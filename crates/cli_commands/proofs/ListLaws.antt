@@ -11,15 +11,18 @@ use Rattle.ns_image.specs.declared.answer.ReadImage.TheVariants as readings
 use Rattle.list_oiv.specs.declared.image_listing.ImageByteCause.{ImageByteCause}
 use Rattle.list_oiv.specs.declared.image_listing.ImageListing.{ImageListing}
 use Rattle.list_oiv.specs.declared.image_listing.ImageListing.TheVariants.{Text, BadBytes, OutOfMemory}
+use Rattle.list_oiv.specs.declared.image_listing.PathListing.{PathListing}
+use Rattle.list_oiv.specs.declared.image_listing.PathListing.TheVariants as at_path
 use Rattle.list_oiv.specs.Listed.{cause_of, IsAnswer}
+use Rattle.list_oiv.specs.Directory.{IsPathAnswer}
 use Rattle.cli_commands.specs.declared.status.Status.TheVariants as status
 use Rattle.cli_commands.specs.declared.command_fault.CommandFault.{CommandFault}
 use Rattle.cli_commands.specs.declared.command_fault.CommandFault.TheVariants as fault
-use Rattle.cli_commands.specs.declared.tool.Tool.{Tool}
+use Rattle.cli_commands.specs.Tools.{Tool}
 use Rattle.cli_commands.specs.declared.found.Found.{Found}
 use Rattle.cli_commands.specs.declared.found.Found.TheVariants.{Absent, TooLong, Bytes}
 use Rattle.cli_commands.specs.Uses.{DiskUse, NoDiskFailed}
-use Rattle.cli_commands.specs.Listing.{IsImageTold, file_under, HasCalls, GivesListing, IsListFault}
+use Rattle.cli_commands.specs.Listing.{IsImageTold, IsPathTold, LacksPath, file_under, HasCalls, GivesListing, IsListFault}
 use Rattle.cli_commands.specs.Found.{IsFound, IsReadFault, GivesFound, IsFoundFault}
 
 -- ## What was found
@@ -42,6 +45,22 @@ image_text tell bytes (Text text) (readings.BadImage at why) e is = absurd is
 image_text tell bytes (BadBytes place cause) r e is = tt
 image_text tell bytes OutOfMemory r e is = tt
 
+-- what is due of a path of an image
+abbrev pub PathDue : List ℕ → List ℕ → PathListing → Type 0
+PathDue path bytes (at_path.Text text) = IsPathTold path bytes text.items
+PathDue path bytes at_path.NoPath = LacksPath path bytes
+PathDue path bytes (at_path.BadBytes place cause) = (why : Cause) × (reading_of bytes ≡ readings.BadImage place why) × (cause_of why ≡ Some cause)
+PathDue path bytes at_path.OutOfMemory = Unit {0}
+
+pub path_due : (path bytes : List ℕ) (listing : PathListing) (r : ReadImage) → reading_of bytes ≡ r → IsPathAnswer path r listing → PathDue path bytes listing
+path_due path bytes (at_path.Text text) (readings.Image space txid) e is = record { space = space; txid = txid; read = e; spelled = is }
+path_due path bytes (at_path.Text text) (readings.BadImage at why) e is = absurd is
+path_due path bytes at_path.NoPath (readings.Image space txid) e is = record { space = space; txid = txid; read = e; absent = is }
+path_due path bytes at_path.NoPath (readings.BadImage at why) e is = absurd is
+path_due path bytes (at_path.BadBytes place cause) (readings.Image space txid) e is = absurd is
+path_due path bytes (at_path.BadBytes place cause) (readings.BadImage at why) e is = (why, e ∙ ap (λ (n : ℕ). readings.BadImage n why) (sym is.0), is.1)
+path_due path bytes at_path.OutOfMemory r e is = tt
+
 module _ {D : Type 0} (name : List ℕ) (disk : DiskUse D) (calls : HasCalls disk) (fine : NoDiskFailed disk) (of : Tool) where
   found_text : (found : Found) (text : List ℕ) → (disk.tells disk.before → IsFound (file_under disk name) found) → GivesFound of found text → GivesListing of name disk status.Ok text
   found_text Absent text is gives = absurd gives
@@ -56,6 +75,7 @@ module _ {D : Type 0} (name : List ℕ) (disk : DiskUse D) (calls : HasCalls dis
   bytes_fault bytes (fault.BadBytes place cause) is so = record { file = Some bytes; same = λ t. sym (is t); calls = calls; so = so }
   bytes_fault bytes (fault.BadImage place cause) is so = record { file = Some bytes; same = λ t. sym (is t); calls = calls; so = so }
   bytes_fault bytes (fault.BadFile file) is so = absurd so
+  bytes_fault bytes fault.NoPath is so = record { file = Some bytes; same = λ t. sym (is t); calls = calls; so = so }
   bytes_fault bytes fault.NotJson is so = record { file = Some bytes; same = λ t. sym (is t); calls = calls; so = so }
   bytes_fault bytes (fault.BadEntry index) is so = record { file = Some bytes; same = λ t. sym (is t); calls = calls; so = so }
   bytes_fault bytes (fault.TooManyEntries number) is so = record { file = Some bytes; same = λ t. sym (is t); calls = calls; so = so }

@@ -28,6 +28,7 @@ bad_file_is fault.NoFile is = absurd is
 bad_file_is (fault.BadBytes place cause) is = absurd is
 bad_file_is (fault.BadImage place cause) is = absurd is
 bad_file_is (fault.BadFile name) is = (name, refl)
+bad_file_is fault.NoPath is = absurd is
 bad_file_is fault.NotJson is = absurd is
 bad_file_is (fault.BadEntry index) is = absurd is
 bad_file_is (fault.TooManyEntries number) is = absurd is

@@ -1,6 +1,6 @@
 -- The words of commands, and where others stop being some.
-use Rattle.std.proofs.Common.{◌≡◌, ◌≢◌, ◌≤◌, ℕ, length, decimal, Bool, true, false, List, [], ◌∷◌, ◌||◌, Some, refl, sym, ap, subst, ◌∙◌, arith, inl, inr, ◌⊎◌, ⊎_elim}
-use Rattle.std.specs.Prelude.{codes, Option, None, MatchOption, if◌then◌else◌}
+use Rattle.std.proofs.Common.{◌≡◌, ◌≢◌, ℕ, length, decimal, Bool, true, false, List, [], ◌∷◌, ◌||◌, Some, refl, sym, ap, subst, ◌∙◌, arith, inl, inr, ◌⊎◌, ⊎_elim}
+use Rattle.std.specs.Prelude.{codes, Option, None, MatchOption}
 use Rattle.std.specs.Str.{bytes_eq}
 use Rattle.std.specs.Str.Parse.{digits_value}
 use Rattle.std.proofs.lemmas.Slice.Eq.{bytes_eq-Decides}
@@ -9,18 +9,20 @@ use Rattle.journal_core.specs.Nodes.{most_nodes}
 use Rattle.base_words.specs.WordNumbers.{is_number}
 use Rattle.base_words.proofs.NumberLaws.{told_number}
 use Rattle.play_script.specs.Words.{greatest}
-use Rattle.play_script.proofs.NumberLaws.{number_is, number_again}
+use Rattle.play_script.proofs.NumberLaws.{number_is}
 use Rattle.play_script.specs.Generated.{IsWithin}
 use Rattle.cli_commands.specs.declared.tool.SegmentTool.{SegmentTool}
 use Rattle.cli_commands.specs.declared.tool.SegmentTool.TheVariants as segment
 use Rattle.cli_commands.specs.declared.tool.ImageTool.{ImageTool}
 use Rattle.cli_commands.specs.declared.tool.ImageTool.TheVariants as image
-use Rattle.cli_commands.specs.declared.tool.Tool.{Tool}
-use Rattle.cli_commands.specs.declared.tool.Tool.TheVariants as tool
-use Rattle.cli_commands.specs.Commands.{Asked, play, run, piped, mirror, boot, node, fsck, judge, gen, list, segment_word, image_word, words_of, AreOfSegment, IsAllowed, AskFor, IsCommand}
-use Rattle.cli_commands.specs.Usage.{is_alone, is_oev, is_oiv, after_one, after_tool, after_program, after_epoch, behind_start, behind_name, after_back, after_oev, asks_piped}
+use Rattle.cli_commands.specs.Tools as tool
+use Rattle.cli_commands.specs.Commands.{Asked, play, run, piped, mirror, boot, node, fsck, judge, gen, list, segment_word}
+use Rattle.cli_commands.specs.Commands.{image_word, words_of, AreOfSegment, is_from_root, AskFor, IsCommand}
+use Rattle.cli_commands.specs.Usage.{is_alone, is_oev, is_oiv, after_one, after_tool, after_program, after_epoch, behind_start, behind_name, after_back}
+use Rattle.cli_commands.specs.Usage.{after_oev, after_path, behind_image, after_ls, after_oiv, asks_piped}
 use Rattle.cli_commands.specs.Usage.{after_number, behind_edits, after_nodes, after_gen, usage_of}
 use Rattle.cli_commands.specs.Words.{StopAt, UsageIsOfFirstWrongWord}
+pub use Rattle.cli_commands.proofs.OneCommand.{one_command}
 
 -- ## Words and their tests
 bytes_other : (a b : List ℕ) → bytes_eq a b ≡ false → a ≡ b → ⊥
@@ -82,11 +84,16 @@ is_image_tool image.Delimited = refl
 is_image_tool image.Sizes = refl
 is_image_tool image.Json = refl
 
--- no listing has the word of the way back
+-- no listing has the word of the way back, and none that of a path
 not_back : (of : SegmentTool) → bytes_eq (segment_word of) (codes "back") ≡ false
 not_back segment.List = refl
 not_back segment.Stats = refl
 not_back segment.Json = refl
+
+not_ls : (of : ImageTool) → bytes_eq (image_word of) (codes "ls") ≡ false
+not_ls image.Delimited = refl
+not_ls image.Sizes = refl
+not_ls image.Json = refl
 
 -- ## What stands after the first word of a command
 heads : (a b : List ℕ) (xs ys : List (List ℕ)) → a ∷ xs ≡ b ∷ ys → a ≡ b
@@ -120,6 +127,7 @@ first_word word words judge e = inl (ap is_alone (heads word (codes "judge") wor
 first_word word words (gen number edits nodes) e = inr (inr (inr (heads word (codes "gen") words (decimal number ∷ decimal edits ∷ decimal nodes ∷ []) e)))
 first_word word words (list (tool.Oev of) name) e = inr (inl (heads word (codes "oev") words (segment_word of ∷ name ∷ []) e))
 first_word word words (list (tool.Oiv of) name) e = inr (inr (inl (heads word (codes "oiv") words (image_word of ∷ name ∷ []) e)))
+first_word word words (list (tool.Ls path) name) e = inr (inr (inl (heads word (codes "oiv") words (codes "ls" ∷ name ∷ path ∷ []) e)))
 first_word word words (list (tool.Back start epoch) name) e = inr (inl (heads word (codes "oev") words (codes "back" ∷ name ∷ decimal start ∷ decimal epoch ∷ []) e))
 
 -- a program isn't a command alone
@@ -138,6 +146,7 @@ after_alone word words judge y e = tails word (codes "judge") words [] e
 after_alone word words (gen number edits nodes) y e = absurd (apart word (codes "gen") refl y (heads word (codes "gen") words (decimal number ∷ decimal edits ∷ decimal nodes ∷ []) e))
 after_alone word words (list (tool.Oev of) name) y e = absurd (apart word (codes "oev") refl y (heads word (codes "oev") words (segment_word of ∷ name ∷ []) e))
 after_alone word words (list (tool.Oiv of) name) y e = absurd (apart word (codes "oiv") refl y (heads word (codes "oiv") words (image_word of ∷ name ∷ []) e))
+after_alone word words (list (tool.Ls path) name) y e = absurd (apart word (codes "oiv") refl y (heads word (codes "oiv") words (codes "ls" ∷ name ∷ path ∷ []) e))
 after_alone word words (list (tool.Back start epoch) name) y e =
     absurd (apart word (codes "oev") refl y (heads word (codes "oev") words (codes "back" ∷ name ∷ decimal start ∷ decimal epoch ∷ []) e))
 
@@ -154,6 +163,7 @@ program_alone word judge e = ap is_alone (heads word (codes "judge") [] [] e)
 program_alone word (gen number edits nodes) e = absurd (cc (tails word (codes "gen") [] (decimal number ∷ decimal edits ∷ decimal nodes ∷ []) e))
 program_alone word (list (tool.Oev of) name) e = absurd (cc (tails word (codes "oev") [] (segment_word of ∷ name ∷ []) e))
 program_alone word (list (tool.Oiv of) name) e = absurd (cc (tails word (codes "oiv") [] (image_word of ∷ name ∷ []) e))
+program_alone word (list (tool.Ls path) name) e = absurd (cc (tails word (codes "oiv") [] (codes "ls" ∷ name ∷ path ∷ []) e))
 program_alone word (list (tool.Back start epoch) name) e = absurd (cc (tails word (codes "oev") [] (codes "back" ∷ name ∷ decimal start ∷ decimal epoch ∷ []) e))
 
 more_words : (word : List ℕ) → is_alone word ≡ false → IsCommand (word ∷ []) → ⊥
@@ -175,15 +185,14 @@ after_oev_is word words b (gen number edits nodes, e) = absurd (bytes_other (cod
 after_oev_is word words b (list (tool.Oev of) name, e) = (of, name, tails (codes "oev") (codes "oev") (word ∷ words) (segment_word of ∷ name ∷ []) e.words_are)
 after_oev_is word words b (list (tool.Oiv of) name, e) =
     absurd (bytes_other (codes "oev") (codes "oiv") refl (heads (codes "oev") (codes "oiv") (word ∷ words) (image_word of ∷ name ∷ []) e.words_are))
+after_oev_is word words b (list (tool.Ls path) name, e) =
+    absurd (bytes_other (codes "oev") (codes "oiv") refl (heads (codes "oev") (codes "oiv") (word ∷ words) (codes "ls" ∷ name ∷ path ∷ []) e.words_are))
 after_oev_is word words b (list (tool.Back start epoch) name, e) = absurd (bytes_other word (codes "back") b
     (heads word (codes "back") words (name ∷ decimal start ∷ decimal epoch ∷ [])
     (tails (codes "oev") (codes "oev") (word ∷ words) (codes "back" ∷ name ∷ decimal start ∷ decimal epoch ∷ []) e.words_are)))
 
--- after `oiv` a tool's word and a name
-abbrev no_other : List ℕ → Bool
-no_other word = false
-
-after_oiv_is : (word : List ℕ) (words : List (List ℕ)) → no_other word ≡ false → IsCommand (codes "oiv" ∷ word ∷ words)
+-- after `oiv` a tool's word and a name, where there isn't `ls`
+after_oiv_is : (word : List ℕ) (words : List (List ℕ)) → bytes_eq word (codes "ls") ≡ false → IsCommand (codes "oiv" ∷ word ∷ words)
     → (of : ImageTool) × (name : List ℕ) × (word ∷ words ≡ image_word of ∷ name ∷ [])
 after_oiv_is word words b (play, e) = absurd (bytes_other (codes "oiv") (codes "play") refl (heads (codes "oiv") (codes "play") (word ∷ words) [] e.words_are))
 after_oiv_is word words b (run, e) = absurd (bytes_other (codes "oiv") (codes "run") refl (heads (codes "oiv") (codes "run") (word ∷ words) [] e.words_are))
@@ -198,6 +207,8 @@ after_oiv_is word words b (gen number edits nodes, e) = absurd (bytes_other (cod
 after_oiv_is word words b (list (tool.Oev of) name, e) =
     absurd (bytes_other (codes "oiv") (codes "oev") refl (heads (codes "oiv") (codes "oev") (word ∷ words) (segment_word of ∷ name ∷ []) e.words_are))
 after_oiv_is word words b (list (tool.Oiv of) name, e) = (of, name, tails (codes "oiv") (codes "oiv") (word ∷ words) (image_word of ∷ name ∷ []) e.words_are)
+after_oiv_is word words b (list (tool.Ls path) name, e) = absurd (bytes_other word (codes "ls") b
+    (heads word (codes "ls") words (name ∷ path ∷ []) (tails (codes "oiv") (codes "oiv") (word ∷ words) (codes "ls" ∷ name ∷ path ∷ []) e.words_are)))
 after_oiv_is word words b (list (tool.Back start epoch) name, e) =
     absurd (bytes_other (codes "oiv") (codes "oev") refl (heads (codes "oiv") (codes "oev") (word ∷ words) (codes "back" ∷ name ∷ decimal start ∷ decimal epoch ∷ []) e.words_are))
 
@@ -284,10 +295,11 @@ module _ {W : Type 0} (program : List ℕ) (word_for : W → List ℕ) (test oth
   program_first [] o = tool_missing
   program_first (word ∷ words) o = program_by word words (test word) (o word words refl) refl
 
-oiv_first : (words : List (List ℕ)) → MatchOption (after_program is_oiv words) (IsCommand (codes "oiv" ∷ words)) (StopAt (codes "oiv" ∷ words))
-oiv_first words =
-    program_first (codes "oiv") image_word is_oiv no_other image.Delimited refl after_oiv_is (λ of name. (list (tool.Oiv of) name, record { words_are = refl; allowed = tt })) oiv_word is_image_tool
-    (λ of. refl) words (λ word others e. refl)
+-- after `oiv`, but for `ls`
+image_first : (words : List (List ℕ)) → ((word : List ℕ) (others : List (List ℕ)) → words ≡ word ∷ others → bytes_eq word (codes "ls") ≡ false)
+    → MatchOption (after_program is_oiv words) (IsCommand (codes "oiv" ∷ words)) (StopAt (codes "oiv" ∷ words))
+image_first = program_first (codes "oiv") image_word is_oiv (λ word. bytes_eq word (codes "ls")) image.Delimited refl after_oiv_is
+    (λ of name. (list (tool.Oiv of) name, record { words_are = refl; allowed = tt })) oiv_word is_image_tool not_ls
 
 -- after `oev`, but for `back`
 listing_first : (words : List (List ℕ)) → ((word : List ℕ) (others : List (List ℕ)) → words ≡ word ∷ others → bytes_eq word (codes "back") ≡ false)
@@ -321,6 +333,8 @@ after_back_is words (list (tool.Oev of) name, e) =
     absurd (bytes_other (segment_word of) (codes "back") (not_back of) (sym is))
 after_back_is words (list (tool.Oiv of) name, e) =
     absurd (bytes_other (codes "oev") (codes "oiv") refl (heads (codes "oev") (codes "oiv") (codes "back" ∷ words) (image_word of ∷ name ∷ []) e.words_are))
+after_back_is words (list (tool.Ls path) name, e) =
+    absurd (bytes_other (codes "oev") (codes "oiv") refl (heads (codes "oev") (codes "oiv") (codes "back" ∷ words) (codes "ls" ∷ name ∷ path ∷ []) e.words_are))
 after_back_is words (list (tool.Back start epoch) name, e) = record {
   name = name;
   start = start;
@@ -439,6 +453,106 @@ unfolding after_oev after_program
 oev_first [] = listing_first [] (λ word others e. absurd (cc e))
 oev_first (word ∷ words) = oev_by word words (bytes_eq word (codes "back")) refl
 
+-- ## After `oiv ls`
+-- what stands there in a command
+record IsLs (words : List (List ℕ)) : Type 0 where
+  pub name : List ℕ
+  pub path : List ℕ
+  pub begins : is_from_root path ≡ true
+  pub words_are : words ≡ name ∷ path ∷ []
+
+after_ls_is : (words : List (List ℕ)) → IsCommand (codes "oiv" ∷ codes "ls" ∷ words) → IsLs words
+after_ls_is words (play, e) = absurd (bytes_other (codes "oiv") (codes "play") refl (heads (codes "oiv") (codes "play") (codes "ls" ∷ words) [] e.words_are))
+after_ls_is words (run, e) = absurd (bytes_other (codes "oiv") (codes "run") refl (heads (codes "oiv") (codes "run") (codes "ls" ∷ words) [] e.words_are))
+after_ls_is words (piped, e) = absurd (bytes_other (codes "oiv") (codes "piped") refl (heads (codes "oiv") (codes "piped") (codes "ls" ∷ words) [] e.words_are))
+after_ls_is words (mirror, e) = absurd (bytes_other (codes "oiv") (codes "mirror") refl (heads (codes "oiv") (codes "mirror") (codes "ls" ∷ words) [] e.words_are))
+after_ls_is words (boot, e) = absurd (bytes_other (codes "oiv") (codes "boot") refl (heads (codes "oiv") (codes "boot") (codes "ls" ∷ words) [] e.words_are))
+after_ls_is words (node, e) = absurd (bytes_other (codes "oiv") (codes "node") refl (heads (codes "oiv") (codes "node") (codes "ls" ∷ words) [] e.words_are))
+after_ls_is words (fsck, e) = absurd (bytes_other (codes "oiv") (codes "fsck") refl (heads (codes "oiv") (codes "fsck") (codes "ls" ∷ words) [] e.words_are))
+after_ls_is words (judge, e) = absurd (bytes_other (codes "oiv") (codes "judge") refl (heads (codes "oiv") (codes "judge") (codes "ls" ∷ words) [] e.words_are))
+after_ls_is words (gen number edits nodes, e) = absurd (bytes_other (codes "oiv") (codes "gen") refl
+    (heads (codes "oiv") (codes "gen") (codes "ls" ∷ words) (decimal number ∷ decimal edits ∷ decimal nodes ∷ []) e.words_are))
+after_ls_is words (list (tool.Oev of) name, e) =
+    absurd (bytes_other (codes "oiv") (codes "oev") refl (heads (codes "oiv") (codes "oev") (codes "ls" ∷ words) (segment_word of ∷ name ∷ []) e.words_are))
+after_ls_is words (list (tool.Oiv of) name, e) =
+    let is : codes "ls" ≡ image_word of =
+    heads (codes "ls") (image_word of) words (name ∷ []) (tails (codes "oiv") (codes "oiv") (codes "ls" ∷ words) (image_word of ∷ name ∷ []) e.words_are) in
+    absurd (bytes_other (image_word of) (codes "ls") (not_ls of) (sym is))
+after_ls_is words (list (tool.Ls path) name, e) = record {
+  name = name;
+  path = path;
+  begins = e.allowed;
+  words_are = tails (codes "ls") (codes "ls") words (name ∷ path ∷ []) (tails (codes "oiv") (codes "oiv") (codes "ls" ∷ words) (codes "ls" ∷ name ∷ path ∷ []) e.words_are);
+}
+after_ls_is words (list (tool.Back start epoch) name, e) =
+    absurd (bytes_other (codes "oiv") (codes "oev") refl (heads (codes "oiv") (codes "oev") (codes "ls" ∷ words) (codes "back" ∷ name ∷ decimal start ∷ decimal epoch ∷ []) e.words_are))
+
+ls_of : (name path : List ℕ) → is_from_root path ≡ true → IsCommand (codes "oiv" ∷ codes "ls" ∷ name ∷ path ∷ [])
+ls_of name path a = (list (tool.Ls path) name, record { words_are = refl; allowed = a })
+
+bad_path : (name path : List ℕ) (words : List (List ℕ)) → is_from_root path ≡ false → IsCommand (codes "oiv" ∷ codes "ls" ∷ name ∷ path ∷ words) → ⊥
+bad_path name path words n c =
+    let h = after_ls_is (name ∷ path ∷ words) c in
+    let is : path ≡ h.path = heads path h.path words [] (tails name h.name (path ∷ words) (h.path ∷ []) h.words_are) in
+    both_not (is_from_root path) n (ap is_from_root is ∙ h.begins)
+
+-- too few words, and too many
+not_two : (words : List (List ℕ)) → length words ≢ 2 → IsCommand (codes "oiv" ∷ codes "ls" ∷ words) → ⊥
+not_two words n c = let h = after_ls_is words c in n (ap length h.words_are)
+
+path_first : (name path : List ℕ) (words : List (List ℕ)) → is_from_root path ≡ true
+    → MatchOption (after_path words) (IsCommand (codes "oiv" ∷ codes "ls" ∷ name ∷ path ∷ words)) (StopAt (codes "oiv" ∷ codes "ls" ∷ name ∷ path ∷ words))
+path_first name path [] a = ls_of name path a
+path_first name path (word ∷ words) a = record {
+  none = not_two (name ∷ path ∷ word ∷ words) (λ e. absurd (omega (arith, e)));
+  within = omega arith;
+  before = ([], ls_of name path a);
+  further = λ l x. not_two (name ∷ path ∷ word ∷ x.0) (λ e. absurd (omega (arith, e))) x.1;
+}
+
+image_behind : (name : List ℕ) (words : List (List ℕ))
+    → MatchOption (behind_image words) (IsCommand (codes "oiv" ∷ codes "ls" ∷ name ∷ words)) (StopAt (codes "oiv" ∷ codes "ls" ∷ name ∷ words))
+image_behind name [] = record {
+  none = not_two (name ∷ []) (λ e. absurd (omega (arith, e)));
+  within = omega arith;
+  before = (codes "/" ∷ [], ls_of name (codes "/") refl);
+  further = λ l x. absurd (omega (arith, l));
+}
+image_behind name (path ∷ words) = by (is_from_root path) refl
+  where
+    by : (t : Bool) → is_from_root path ≡ t → MatchOption (behind_image (path ∷ words)) (IsCommand (codes "oiv" ∷ codes "ls" ∷ name ∷ path ∷ words))
+        (StopAt (codes "oiv" ∷ codes "ls" ∷ name ∷ path ∷ words))
+    by true a = rw a (path_first name path words a)
+    by false a = rw a (let stop : StopAt (codes "oiv" ∷ codes "ls" ∷ name ∷ path ∷ words) 3 = record {
+      none = bad_path name path words a;
+      within = omega arith;
+      before = (codes "/" ∷ [], ls_of name (codes "/") refl);
+      further = λ l x. bad_path name path x.0 a x.1;
+    } in stop)
+
+ls_first : (words : List (List ℕ)) → MatchOption (after_ls words) (IsCommand (codes "oiv" ∷ codes "ls" ∷ words)) (StopAt (codes "oiv" ∷ codes "ls" ∷ words))
+unfolding after_ls
+ls_first [] = record {
+  none = not_two [] (λ e. absurd (omega (arith, e)));
+  within = omega arith;
+  before = ([] ∷ codes "/" ∷ [], ls_of [] (codes "/") refl);
+  further = λ l x. absurd (omega (arith, l));
+}
+ls_first (name ∷ words) = image_behind name words
+
+oiv_by : (word : List ℕ) (words : List (List ℕ)) (t : Bool) → bytes_eq word (codes "ls") ≡ t
+    → MatchOption (after_oiv (word ∷ words)) (IsCommand (codes "oiv" ∷ word ∷ words)) (StopAt (codes "oiv" ∷ word ∷ words))
+unfolding after_oiv
+oiv_by word words true e =
+    rw e (subst (λ w. MatchOption (after_ls words) (IsCommand (codes "oiv" ∷ w ∷ words)) (StopAt (codes "oiv" ∷ w ∷ words))) (sym ((bytes_eq-Decides word (codes "ls")).0 e)) (ls_first words))
+oiv_by word words false e =
+    rw e (image_first (word ∷ words) (λ w others is. ap (λ x. bytes_eq x (codes "ls")) (sym (heads word w words others is)) ∙ e))
+
+oiv_first : (words : List (List ℕ)) → MatchOption (after_oiv words) (IsCommand (codes "oiv" ∷ words)) (StopAt (codes "oiv" ∷ words))
+unfolding after_oiv after_program
+oiv_first [] = image_first [] (λ word others e. absurd (cc e))
+oiv_first (word ∷ words) = oiv_by word words (bytes_eq word (codes "ls")) refl
+
 -- ## After `gen`
 -- what stands there in a command
 record IsGen (words : List (List ℕ)) : Type 0 where
@@ -467,6 +581,7 @@ after_gen_is words (gen number edits nodes, e) = record {
 after_gen_is words (list (tool.Oev of) name, e) = absurd (bytes_other (codes "gen") (codes "oev") refl (heads (codes "gen") (codes "oev") words (segment_word of ∷ name ∷ []) e.words_are))
 after_gen_is words (list (tool.Back start epoch) name, e) =
     absurd (bytes_other (codes "gen") (codes "oev") refl (heads (codes "gen") (codes "oev") words (codes "back" ∷ name ∷ decimal start ∷ decimal epoch ∷ []) e.words_are))
+after_gen_is words (list (tool.Ls path) name, e) = absurd (bytes_other (codes "gen") (codes "oiv") refl (heads (codes "gen") (codes "oiv") words (codes "ls" ∷ name ∷ path ∷ []) e.words_are))
 after_gen_is words (list (tool.Oiv of) name, e) = absurd (bytes_other (codes "gen") (codes "oiv") refl (heads (codes "gen") (codes "oiv") words (image_word of ∷ name ∷ []) e.words_are))
 
 -- three words that are numbers in their ranges
@@ -594,7 +709,7 @@ first_by word words true o p q e h k g = rw e (alone_first word words e (alone_w
 first_by word words false true p q e h k g =
     rw (e, h) (subst (λ w. MatchOption (after_oev words) (IsCommand (w ∷ words)) (StopAt (w ∷ words))) (sym ((bytes_eq-Decides word (codes "oev")).0 h)) (oev_first words))
 first_by word words false false true q e h k g =
-    rw (e, h, k) (subst (λ w. MatchOption (after_program is_oiv words) (IsCommand (w ∷ words)) (StopAt (w ∷ words))) (sym ((bytes_eq-Decides word (codes "oiv")).0 k)) (oiv_first words))
+    rw (e, h, k) (subst (λ w. MatchOption (after_oiv words) (IsCommand (w ∷ words)) (StopAt (w ∷ words))) (sym ((bytes_eq-Decides word (codes "oiv")).0 k)) (oiv_first words))
 first_by word words false false false true e h k g =
     rw (e, h, k, g) (subst (λ w. MatchOption (after_gen words) (IsCommand (w ∷ words)) (StopAt (w ∷ words))) (sym ((bytes_eq-Decides word (codes "gen")).0 g)) (gen_first words))
 first_by word words false false false false e h k g =
@@ -625,66 +740,6 @@ no_wrong_word words asked is = by (usage_of words) refl
     by : (o : Option ℕ) → usage_of words ≡ o → o ≡ None
     by None e = refl
     by (Some place) e = absurd (right_words words asked place is e)
-
--- the command of these words, which are one's
-unfoldable alone_at : List ℕ → Asked
-alone_at word =
-    if bytes_eq word (codes "play") then play
-    else (if bytes_eq word (codes "run") then run else (if bytes_eq word (codes "piped") then piped else (if bytes_eq word (codes "mirror") then mirror
-    else (if bytes_eq word (codes "boot") then boot else (if bytes_eq word (codes "node") then node
-    else (if bytes_eq word (codes "fsck") then fsck else judge))))))
-
-unfoldable segment_at : List ℕ → SegmentTool
-segment_at word = if bytes_eq word (codes "list") then segment.List else (if bytes_eq word (codes "stats") then segment.Stats else segment.Json)
-
-unfoldable image_at : List ℕ → ImageTool
-image_at word = if bytes_eq word (codes "delimited") then image.Delimited else (if bytes_eq word (codes "sizes") then image.Sizes else image.Json)
-
-unfoldable tool_at : List ℕ → List ℕ → Tool
-tool_at program word = if bytes_eq program (codes "oev") then tool.Oev (segment_at word) else tool.Oiv (image_at word)
-
-unfoldable asked_at : List (List ℕ) → Asked
-asked_at [] = play
-asked_at (word ∷ []) = alone_at word
-asked_at (program ∷ word ∷ []) = play
-asked_at (program ∷ word ∷ name ∷ []) = list (tool_at program word) name
-asked_at (word ∷ number ∷ edits ∷ nodes ∷ []) = gen (digits_value 10 number) (digits_value 10 edits) (digits_value 10 nodes)
-asked_at (program ∷ word ∷ name ∷ start ∷ epoch ∷ words) = list (tool.Back (digits_value 10 start) (digits_value 10 epoch)) name
-
-asked_back : (asked : Asked) → IsAllowed asked → asked_at (words_of asked) ≡ asked
-unfolding asked_at tool_at image_at segment_at alone_at
-asked_back play h = refl
-asked_back run h = refl
-asked_back piped h = refl
-asked_back mirror h = refl
-asked_back boot h = refl
-asked_back node h = refl
-asked_back fsck h = refl
-asked_back judge h = refl
-asked_back (gen number edits nodes) h =
-    let a : number ≤ 4611686018427387904 = h.number_fits in
-    let b : edits ≤ 10000 = h.few_edits in
-    let c : nodes ≤ most_nodes = h.permitted.1 in
-    let n = number_again number (omega (arith, a)) in
-    let e = number_again edits (omega (arith, b)) in
-    let k = number_again nodes (omega (arith, c)) in
-    (λ i. gen (n i) (e i) (k i))
-asked_back (list (tool.Oev segment.List) name) h = refl
-asked_back (list (tool.Oev segment.Stats) name) h = refl
-asked_back (list (tool.Oev segment.Json) name) h = refl
-asked_back (list (tool.Oiv image.Delimited) name) h = refl
-asked_back (list (tool.Oiv image.Sizes) name) h = refl
-asked_back (list (tool.Oiv image.Json) name) h = refl
-asked_back (list (tool.Back start epoch) name) h =
-    let a : start ≤ 4611686018427387904 = h.start_within in
-    let b : epoch ≤ 4611686018427387904 = h.epoch_within in
-    let s = number_again start (omega (arith, a)) in
-    let e = number_again epoch (omega (arith, b)) in
-    (λ i. list (tool.Back (s i) (e i)) name)
-
--- words are of one command
-pub one_command : (words : List (List ℕ)) (a b : Asked) → AskFor words a → AskFor words b → a ≡ b
-one_command words a b p q = sym (asked_back a p.allowed) ∙ (ap asked_at (sym p.words_are ∙ q.words_are) ∙ asked_back b q.allowed)
 
 -- the words that ask for pipes
 pub asks_pipes : (words : List (List ℕ)) → asks_piped words ≡ true → AskFor words piped

@@ -1,13 +1,13 @@
 -- The commands, and the words that ask for them.
-use Rattle.std.specs.Prelude.{ℕ, ◌≡◌, ◌≤◌, List, [], ◌∷◌, codes, decimal}
+use Rattle.std.specs.Prelude.{ℕ, ◌≡◌, ◌≤◌, Bool, true, false, ◌==◌, List, [], ◌∷◌, codes, decimal}
 use Rattle.journal_core.specs.Limits.{max_number}
 use Rattle.play_script.specs.Generated.{IsWithin}
 use Rattle.cli_commands.specs.declared.tool.SegmentTool.{SegmentTool}
 use Rattle.cli_commands.specs.declared.tool.SegmentTool.TheVariants as segment
 use Rattle.cli_commands.specs.declared.tool.ImageTool.{ImageTool}
 use Rattle.cli_commands.specs.declared.tool.ImageTool.TheVariants as image
-use Rattle.cli_commands.specs.declared.tool.Tool.{Tool}
-use Rattle.cli_commands.specs.declared.tool.Tool.TheVariants as tool
+use Rattle.cli_commands.specs.Tools.{Tool, shown}
+use Rattle.cli_commands.specs.Tools as tool
 use Rattle.cli_commands.specs.declared.command.Command.{Command}
 use Rattle.cli_commands.specs.declared.command.Command.TheVariants as command
 
@@ -39,12 +39,13 @@ asked_in command.Node = node
 asked_in command.Fsck = fsck
 asked_in command.Judge = judge
 asked_in (command.Gen number edits nodes) = gen number edits nodes
-asked_in (command.Listing of name) = list of name.now
+asked_in (command.Listing of name) = list (shown of) name.now
 
 -- ## The words of a tool
 abbrev pub program_of : Tool → List ℕ
 program_of (tool.Oev of) = codes "oev"
 program_of (tool.Oiv of) = codes "oiv"
+program_of (tool.Ls path) = codes "oiv"
 program_of (tool.Back start epoch) = codes "oev"
 
 abbrev pub segment_word : SegmentTool → List ℕ
@@ -60,13 +61,15 @@ image_word image.Json = codes "json"
 abbrev pub word_of : Tool → List ℕ
 word_of (tool.Oev of) = segment_word of
 word_of (tool.Oiv of) = image_word of
+word_of (tool.Ls path) = codes "ls"
 word_of (tool.Back start epoch) = codes "back"
 
 -- after the name of its file
-abbrev pub numbers_of : Tool → List (List ℕ)
-numbers_of (tool.Oev of) = []
-numbers_of (tool.Oiv of) = []
-numbers_of (tool.Back start epoch) = decimal start ∷ decimal epoch ∷ []
+abbrev pub later_words : Tool → List (List ℕ)
+later_words (tool.Oev of) = []
+later_words (tool.Oiv of) = []
+later_words (tool.Ls path) = path ∷ []
+later_words (tool.Back start epoch) = decimal start ∷ decimal epoch ∷ []
 
 -- ## The words of a command
 abbrev pub words_of : Asked → List (List ℕ)
@@ -79,7 +82,7 @@ words_of node = codes "node" ∷ []
 words_of fsck = codes "fsck" ∷ []
 words_of judge = codes "judge" ∷ []
 words_of (gen number edits nodes) = codes "gen" ∷ decimal number ∷ decimal edits ∷ decimal nodes ∷ []
-words_of (list of name) = program_of of ∷ word_of of ∷ name ∷ numbers_of of
+words_of (list of name) = program_of of ∷ word_of of ∷ name ∷ later_words of
 
 -- the start and the epoch of a segment are from 1 to 2^62
 pub record AreOfSegment (start epoch : ℕ) : Type 0 where
@@ -88,12 +91,19 @@ pub record AreOfSegment (start epoch : ℕ) : Type 0 where
   pub some_epoch : 1 ≤ epoch
   pub epoch_within : epoch ≤ max_number
 
+-- the path of an inode begins with a `/`
+abbrev pub is_from_root : List ℕ → Bool
+is_from_root [] = false
+is_from_root (b ∷ bs) = b == 47
+
 abbrev pub IsAllowedTool : Tool → Type 0
 IsAllowedTool (tool.Oev of) = Unit {0}
 IsAllowedTool (tool.Oiv of) = Unit {0}
+IsAllowedTool (tool.Ls path) = is_from_root path ≡ true
 IsAllowedTool (tool.Back start epoch) = AreOfSegment start epoch
 
--- the numbers of a generated script and of a segment are within their limits
+-- the numbers of a generated script and of a segment are within their limits, and a path begins at
+-- the root
 abbrev pub IsAllowed : Asked → Type 0
 IsAllowed (gen number edits nodes) = IsWithin number edits nodes
 IsAllowed (list of name) = IsAllowedTool of

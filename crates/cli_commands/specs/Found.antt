@@ -4,7 +4,7 @@ use Rattle.base_disk.specs.declared.disk.DiskFail.{DiskFail}
 use Rattle.base_disk.specs.declared.disk.DiskFail.TheVariants as fail
 use Rattle.cli_commands.specs.declared.command_fault.CommandFault.{CommandFault}
 use Rattle.cli_commands.specs.declared.command_fault.CommandFault.TheVariants as fault
-use Rattle.cli_commands.specs.declared.tool.Tool.{Tool}
+use Rattle.cli_commands.specs.Tools.{Tool}
 use Rattle.cli_commands.specs.declared.found.Found.{Found}
 use Rattle.cli_commands.specs.declared.found.Found.TheVariants.{Absent, TooLong, Bytes}
 use Rattle.cli_commands.specs.Listing.{longest_file, IsTooLong, IsListing, IsFileFault}
@@ -26,6 +26,7 @@ IsShort (Bytes bytes) = length bytes.items ≤ longest_file
 abbrev pub IsReadFault : Tool → List ℕ → CommandFault → Type 0
 IsReadFault of bytes (fault.BadBytes place cause) = IsFileFault of (Some bytes) (fault.BadBytes place cause)
 IsReadFault of bytes (fault.BadImage place cause) = IsFileFault of (Some bytes) (fault.BadImage place cause)
+IsReadFault of bytes fault.NoPath = IsFileFault of (Some bytes) fault.NoPath
 IsReadFault of bytes fault.NotJson = IsFileFault of (Some bytes) fault.NotJson
 IsReadFault of bytes (fault.BadEntry index) = IsFileFault of (Some bytes) (fault.BadEntry index)
 IsReadFault of bytes (fault.TooManyEntries number) = IsFileFault of (Some bytes) (fault.TooManyEntries number)

@@ -1,6 +1,7 @@
 pub mod Faults
 pub mod Told
 pub mod Uses
+pub mod Tools
 pub mod Commands
 pub mod Usage
 pub mod Words

@@ -1,5 +1,5 @@
 -- How a tool that makes something of a file ends, and what it writes.
-use Rattle.std.specs.Prelude.{ℕ, ◌≡◌, ◌+◌, ◌<◌, ◌≤◌, List, Option, Some, None, Result, Ok, Err, length}
+use Rattle.std.specs.Prelude.{ℕ, ◌≡◌, ◌+◌, ◌<◌, ◌≤◌, List, Option, Some, None, IsSome, Result, Ok, Err, length}
 use Rattle.base_outside.specs.Faults.{Rose}
 use Rattle.base_disk.specs.Calls.{HasCause, Rests}
 use Rattle.base_disk.specs.declared.disk.DiskFail.{DiskFail}
@@ -17,7 +17,7 @@ use Rattle.cli_commands.specs.declared.status.Status.TheVariants as status
 use Rattle.cli_commands.specs.declared.command_fault.CommandFault.{CommandFault}
 use Rattle.cli_commands.specs.declared.command_fault.CommandFault.TheVariants as fault
 use Rattle.ns_tree.specs.declared.inode.Row.{Row}
-use Rattle.ns_tree.specs.Space.{Space}
+use Rattle.ns_tree.specs.Space.{Space, find}
 use Rattle.ns_image.specs.Reading.{reading_of}
 use Rattle.ns_image.specs.declared.image_cause.ImageCause.{ImageCause}
 use Rattle.ns_image.specs.declared.answer.ReadImage.TheVariants.{Image, BadImage}
@@ -25,12 +25,13 @@ use Rattle.list_oiv.specs.Listed.{cause_of}
 use Rattle.list_oiv.specs.Delimited.{delimited}
 use Rattle.list_oiv.specs.Sizes.{sizes}
 use Rattle.list_oiv.specs.Entries.{rows_json}
+use Rattle.list_oiv.specs.Directory.{path_listing}
 use Rattle.cli_commands.specs.declared.tool.SegmentTool.{SegmentTool}
 use Rattle.cli_commands.specs.declared.tool.SegmentTool.TheVariants as segment
 use Rattle.cli_commands.specs.declared.tool.ImageTool.{ImageTool}
 use Rattle.cli_commands.specs.declared.tool.ImageTool.TheVariants as image
-use Rattle.cli_commands.specs.declared.tool.Tool.{Tool}
-use Rattle.cli_commands.specs.declared.tool.Tool.TheVariants as tool
+use Rattle.cli_commands.specs.Tools.{Tool}
+use Rattle.cli_commands.specs.Tools as tool
 use Rattle.cli_commands.specs.Uses.{SinkUse, DiskUse, NoDiskFailed}
 use Rattle.cli_commands.specs.Told.{Told}
 
@@ -57,23 +58,43 @@ pub record IsImageTold (tell : List Row → List ℕ) (bytes text : List ℕ) : 
   pub read : reading_of bytes ≡ Image space txid
   pub spelled : text ≡ tell space.pairs
 
+-- the bytes are an image, and the text is what stands at the path of it
+pub record IsPathTold (path bytes text : List ℕ) : Type 0 where
+  pub space : Space
+  pub txid : ℕ
+  pub read : reading_of bytes ≡ Image space txid
+  pub spelled : path_listing path space.pairs ≡ Some text
+
+-- the bytes are an image that has nothing at the path
+pub record LacksPath (path bytes : List ℕ) : Type 0 where
+  pub space : Space
+  pub txid : ℕ
+  pub read : reading_of bytes ≡ Image space txid
+  pub absent : find path space.pairs ≡ None
+
 -- the text is what the tool tells of all of these bytes
 abbrev pub IsToldBy : Tool → List ℕ → List ℕ → Type 0
 IsToldBy (tool.Oev of) bytes text = IsTold (told_by of) bytes text
 IsToldBy (tool.Oiv of) bytes text = IsImageTold (rows_told_by of) bytes text
+IsToldBy (tool.Ls path) bytes text = IsPathTold path bytes text
 IsToldBy (tool.Back start epoch) bytes text = BecomesSegment start epoch bytes text
 
--- the bytes are a segment's file, an image, or the objects of edits, as the tool wants them
+-- the bytes are a segment's file, an image that has the path if there is one, or the objects of
+-- edits, as the tool wants them
 abbrev pub IsInGrammar : Tool → List ℕ → Type 0
 IsInGrammar (tool.Oev of) bytes = (start : ℕ) × (edits : List EditView) × IsSegment bytes start edits
 IsInGrammar (tool.Oiv of) bytes = (space : Space) × (txid : ℕ) × (reading_of bytes ≡ Image space txid)
+IsInGrammar (tool.Ls path) bytes = (space : Space) × (txid : ℕ) × (reading_of bytes ≡ Image space txid) × IsSome (find path space.pairs)
 IsInGrammar (tool.Back start epoch) bytes = IsOfObjects start bytes
 
--- The bytes aren't, and this is their first damage. Of a listing as JSON: they are no array; or an
+-- The bytes aren't, and this is their first damage. Of a path: the image doesn't have it. Of a
+-- listing as JSON: they are no array; or an
 -- array of too many values; or the value at a place is the first that is the object of no edit.
 abbrev pub IsBytesFault : Tool → List ℕ → CommandFault → Type 0
 IsBytesFault (tool.Oev of) bytes (fault.BadBytes place cause) = (IsInGrammar (tool.Oev of) bytes → ⊥) × IsDamaged bytes place cause
 IsBytesFault (tool.Oiv of) bytes (fault.BadImage place cause) = (why : ImageCause) × (reading_of bytes ≡ BadImage place why) × (cause_of why ≡ Some cause)
+IsBytesFault (tool.Ls path) bytes (fault.BadImage place cause) = (why : ImageCause) × (reading_of bytes ≡ BadImage place why) × (cause_of why ≡ Some cause)
+IsBytesFault (tool.Ls path) bytes fault.NoPath = LacksPath path bytes
 IsBytesFault (tool.Back start epoch) bytes fault.NotJson = HasNoArray bytes
 IsBytesFault (tool.Back start epoch) bytes (fault.TooManyEntries number) = HasLongArray bytes number
 IsBytesFault (tool.Back start epoch) bytes (fault.BadEntry index) = HasBadMember start bytes index
@@ -99,6 +120,7 @@ abbrev pub IsFileFault : Tool → Option (List ℕ) → CommandFault → Type 0
 IsFileFault of file fault.NoFile = file ≡ None
 IsFileFault of file (fault.BadBytes place cause) = HasDamage of file (fault.BadBytes place cause)
 IsFileFault of file (fault.BadImage place cause) = HasDamage of file (fault.BadImage place cause)
+IsFileFault of file fault.NoPath = HasDamage of file fault.NoPath
 IsFileFault of file fault.NotJson = HasDamage of file fault.NotJson
 IsFileFault of file (fault.BadEntry index) = HasDamage of file (fault.BadEntry index)
 IsFileFault of file (fault.TooManyEntries number) = HasDamage of file (fault.TooManyEntries number)
@@ -142,6 +164,7 @@ abbrev pub IsListFault : {D : Type 0} → Tool → List ℕ → DiskUse D → Co
 IsListFault of name disk fault.NoFile = OfFile disk name (λ file. IsFileFault of file fault.NoFile)
 IsListFault of name disk (fault.BadBytes place cause) = OfFile disk name (λ file. IsFileFault of file (fault.BadBytes place cause))
 IsListFault of name disk (fault.BadImage place cause) = OfFile disk name (λ file. IsFileFault of file (fault.BadImage place cause))
+IsListFault of name disk fault.NoPath = OfFile disk name (λ file. IsFileFault of file fault.NoPath)
 IsListFault of name disk fault.NotJson = OfFile disk name (λ file. IsFileFault of file fault.NotJson)
 IsListFault of name disk (fault.BadEntry index) = OfFile disk name (λ file. IsFileFault of file (fault.BadEntry index))
 IsListFault of name disk (fault.TooManyEntries number) = OfFile disk name (λ file. IsFileFault of file (fault.TooManyEntries number))

@@ -5,6 +5,7 @@ use Rattle.std.specs.String.{string_bytes}
 use Rattle.base_words.specs.WordNumbers.{is_number}
 use Rattle.journal_core.specs.Nodes.{most_nodes}
 use Rattle.play_script.specs.Words.{greatest}
+use Rattle.cli_commands.specs.Commands.{is_from_root}
 
 -- the bytes of each word
 abbrev pub bytes_of : {Z : Type 0} → List (String Z) → List (List ℕ)
@@ -35,7 +36,7 @@ after_tool [] = Some 2
 after_tool (name ∷ []) = None
 after_tool (name ∷ word ∷ words) = Some 3
 
--- after `oiv` stands a tool of it, and so after `oev`, but for `back`
+-- after `oev` and `oiv` stands a tool of it, but for `back` and `ls`
 unfoldable pub after_program : (List ℕ → Bool) → List (List ℕ) → Option ℕ
 after_program is_tool [] = Some 1
 after_program is_tool (word ∷ words) = if is_tool word then after_tool words else Some 1
@@ -61,6 +62,23 @@ unfoldable pub after_oev : List (List ℕ) → Option ℕ
 after_oev [] = Some 1
 after_oev (word ∷ words) = if bytes_eq word (codes "back") then after_back words else after_program is_oev (word ∷ words)
 
+-- after `oiv ls` stand a name and a path
+abbrev pub after_path : List (List ℕ) → Option ℕ
+after_path [] = None
+after_path (word ∷ words) = Some 4
+
+abbrev pub behind_image : List (List ℕ) → Option ℕ
+behind_image [] = Some 3
+behind_image (path ∷ words) = if is_from_root path then after_path words else Some 3
+
+unfoldable pub after_ls : List (List ℕ) → Option ℕ
+after_ls [] = Some 2
+after_ls (name ∷ words) = behind_image words
+
+unfoldable pub after_oiv : List (List ℕ) → Option ℕ
+after_oiv [] = Some 1
+after_oiv (word ∷ words) = if bytes_eq word (codes "ls") then after_ls words else after_program is_oiv (word ∷ words)
+
 -- after `gen` stand three numbers: the one that a script is made from, how many edits and how many
 -- nodes
 abbrev pub after_nodes : List (List ℕ) → Option ℕ
@@ -85,7 +103,7 @@ usage_of [] = Some 0
 usage_of (word ∷ words) =
     if is_alone word then after_one words
     else (if bytes_eq word (codes "oev") then after_oev words
-    else (if bytes_eq word (codes "oiv") then after_program is_oiv words
+    else (if bytes_eq word (codes "oiv") then after_oiv words
     else (if bytes_eq word (codes "gen") then after_gen words else Some 0)))
 
 -- the words are the one word `piped`

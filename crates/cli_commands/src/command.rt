@@ -1,7 +1,7 @@
 //! The commands, read from the words.
 ghost use Rattle.std.specs.Prelude.{◌≡◌, [], ◌∷◌, false, Some, codes, MatchOption, MatchResult};
-ghost use Rattle.cli_commands.specs.Commands.{asked_in, AskFor};
-ghost use Rattle.cli_commands.specs.Usage.{bytes_of, is_alone, is_oev, is_oiv, after_one, after_tool, after_program, after_back, after_oev, after_gen, usage_of, asks_piped};
+ghost use Rattle.cli_commands.specs.Commands.{is_from_root, asked_in, AskFor};
+ghost use Rattle.cli_commands.specs.Usage.{bytes_of, is_alone, is_oev, is_oiv, after_one, after_tool, after_program, after_back, after_oev, after_ls, after_oiv, after_gen, usage_of, asks_piped};
 
 use crate::tool::Tool;
 use crate::tool_words::{image_tool_of, segment_tool_of};
@@ -36,7 +36,7 @@ pub enum Command<'a> {
     /// To play the script that a number gives, with so many edits over so many nodes.
     Gen { number: u64, edits: u64, nodes: u64 },
     /// To write what a tool makes of a file of the disk.
-    Listing { tool: Tool, name: &'a str },
+    Listing { tool: Tool<'a>, name: &'a str },
 }
 
 /// The command that has this word alone.
@@ -140,15 +140,54 @@ fn read_oev(words: &[String]) -> Result<Command<'_>, u64>
     }
 }
 
+/// Whether a text begins with `/`.
+fn is_from_root(path: &str) -> bool
+    ensures { result ≡ is_from_root path.now }
+{
+    match path.as_bytes() {
+        [first, ..] => *first == b'/',
+        [] => false,
+    }
+}
+
+/// The path of an image that the words after `oiv ls` ask for; or the place of the first wrong
+/// word.
+#[tactic(auto, using(crate::proofs::LsLaws::asks), unfolding(crate::specs::Usage::after_ls))]
+fn read_ls(words: &[String]) -> Result<Command<'_>, u64>
+    ensures { MatchResult result (λ c. AskFor (codes "oiv" ∷ codes "ls" ∷ bytes_of words.now) (asked_in c)) (λ place. after_ls (bytes_of words.now) ≡ Some place) }
+{
+    let Some((name, others)) = words.split_first() else {
+        return Err(2);
+    };
+    let Some((path, others)) = others.split_first() else {
+        return Err(3);
+    };
+    if !is_from_root(path.as_str()) {
+        return Err(3);
+    }
+    if !others.is_empty() {
+        return Err(4);
+    }
+    Ok(Command::Listing {
+        tool: Tool::Ls {
+            path: path.as_str(),
+        },
+        name: name.as_str(),
+    })
+}
+
 /// The listing of an image that the words after `oiv` ask for; or the place of the first wrong
 /// word.
-#[tactic(auto, unfolding(crate::specs::Usage::after_program))]
+#[tactic(auto, unfolding(crate::specs::Usage::after_oiv, crate::specs::Usage::after_program))]
 fn read_oiv(words: &[String]) -> Result<Command<'_>, u64>
-    ensures { MatchResult result (λ c. AskFor (codes "oiv" ∷ bytes_of words.now) (asked_in c)) (λ place. after_program is_oiv (bytes_of words.now) ≡ Some place) }
+    ensures { MatchResult result (λ c. AskFor (codes "oiv" ∷ bytes_of words.now) (asked_in c)) (λ place. after_oiv (bytes_of words.now) ≡ Some place) }
 {
     let Some((word, names)) = words.split_first() else {
         return Err(1);
     };
+    if word.as_str() == "ls" {
+        return read_ls(names);
+    }
     let Some(of) = image_tool_of(word.as_str()) else {
         return Err(1);
     };

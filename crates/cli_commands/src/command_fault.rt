@@ -28,6 +28,8 @@ pub enum CommandFault {
     BadImage { place: u64, cause: ImageByteCause },
     /// This file of a node isn't in its format.
     BadFile(Name),
+    /// The image has nothing at the path.
+    NoPath,
     /// The file is no array of JSON.
     NotJson,
     /// The array's value at this place, from 0, is the first that is the object of no edit at its
@@ -69,6 +71,7 @@ pub fn status_for(fault: &CommandFault) -> Status
         CommandFault::NoFile => Status::BadBytes,
         CommandFault::BadBytes { .. } | CommandFault::BadImage { .. } | CommandFault::BadFile(_) =>
             Status::BadBytes,
+        CommandFault::NoPath => Status::BadBytes,
         CommandFault::NotJson | CommandFault::BadEntry { .. } => Status::BadBytes,
         CommandFault::TooManyEntries(_) | CommandFault::Limit(_) => Status::Limit,
         CommandFault::ReadFault => Status::ReadFault,
@@ -203,6 +206,7 @@ pub fn line_for(fault: &CommandFault) -> Line
         CommandFault::BadBytes { place, cause } => bytes_line(*place, word_for(*cause)),
         CommandFault::BadImage { place, cause } => bytes_line(*place, image_word_for(*cause)),
         CommandFault::BadFile(_) => Line::new(),
+        CommandFault::NoPath => plain_line("error BadBytes 0 NoPath\n"),
         CommandFault::NotJson => plain_line("error BadBytes 0 Json\n"),
         CommandFault::BadEntry { index } => bytes_line(*index, "Entry"),
         CommandFault::TooManyEntries(number) => number_line("error Limit ", *number),

@@ -6,6 +6,7 @@ ghost use Rattle.list_oev.specs.Listed.{IsListed, GivesText};
 ghost use Rattle.list_oiv.specs.Listed.{IsListed as IsImageListed};
 ghost use Rattle.base_disk.specs.Calls.{Rests};
 ghost use Rattle.base_disk.specs.DiskCalls.{IfTold, IsDiskRun};
+ghost use Rattle.cli_commands.specs.Tools.{Oev, Oiv, Ls, Back as BackTool, shown};
 ghost use Rattle.cli_commands.specs.Commands.{IsAllowedTool};
 ghost use Rattle.cli_commands.specs.Uses.{written_to, done_to};
 ghost use Rattle.cli_commands.specs.Listing.{longest_file, told_by, rows_told_by, IsListing, GivesListing, IsListFault, Lists};
@@ -20,7 +21,7 @@ use base_disk::{Disk, DiskFail};
 use base_outside::Sink;
 use list_back::{Back, back};
 use list_oev::{SegmentListing, json as segment_json, list, stats};
-use list_oiv::{ImageListing, json as image_json, list_delimited, sizes};
+use list_oiv::{ImageListing, PathListing, json as image_json, list_delimited, list_path, sizes};
 use std::alloc::Global;
 
 /// What is told of the bytes of a segment's file.
@@ -49,8 +50,8 @@ fn image_told(alloc: Global, of: ImageTool, bytes: &[u8]) -> ImageListing
 /// What is due of the bytes of a segment's file.
 fn due_of_segment(alloc: Global, of: SegmentTool, bytes: &[u8]) -> Result<Vec<u8>, CommandFault>
     requires { length bytes.now ≤ longest_file }
-    ensures text { IfOk result (λ text. IsListing (Tool.Oev of) (Some bytes.now) text.items) }
-    ensures fault { IfErr result (IsReadFault (Tool.Oev of) bytes.now) }
+    ensures text { IfOk result (λ text. IsListing (Oev of) (Some bytes.now) text.items) }
+    ensures fault { IfErr result (IsReadFault (Oev of) bytes.now) }
 {
     match segment_told(alloc, of, bytes) {
         SegmentListing::Text(text) => Ok(text),
@@ -62,13 +63,27 @@ fn due_of_segment(alloc: Global, of: SegmentTool, bytes: &[u8]) -> Result<Vec<u8
 /// What is due of the bytes of an image.
 fn due_of_image(alloc: Global, of: ImageTool, bytes: &[u8]) -> Result<Vec<u8>, CommandFault>
     requires { length bytes.now ≤ longest_file }
-    ensures text { IfOk result (λ text. IsListing (Tool.Oiv of) (Some bytes.now) text.items) }
-    ensures fault { IfErr result (IsReadFault (Tool.Oiv of) bytes.now) }
+    ensures text { IfOk result (λ text. IsListing (Oiv of) (Some bytes.now) text.items) }
+    ensures fault { IfErr result (IsReadFault (Oiv of) bytes.now) }
 {
     match image_told(alloc, of, bytes) {
         ImageListing::Text(text) => Ok(text),
         ImageListing::BadBytes { place, cause } => Err(CommandFault::BadImage { place, cause }),
         ImageListing::OutOfMemory => Err(CommandFault::OutOfMemory),
+    }
+}
+
+/// What is due of a path of the image that the bytes are.
+fn due_of_path(alloc: Global, path: &str, bytes: &[u8]) -> Result<Vec<u8>, CommandFault>
+    requires { length bytes.now ≤ longest_file }
+    ensures text { IfOk result (λ text. IsListing (Ls path.now) (Some bytes.now) text.items) }
+    ensures fault { IfErr result (IsReadFault (Ls path.now) bytes.now) }
+{
+    match list_path(alloc, bytes, path.as_bytes()) {
+        PathListing::Text(text) => Ok(text),
+        PathListing::NoPath => Err(CommandFault::NoPath),
+        PathListing::BadBytes { place, cause } => Err(CommandFault::BadImage { place, cause }),
+        PathListing::OutOfMemory => Err(CommandFault::OutOfMemory),
     }
 }
 
@@ -80,10 +95,10 @@ fn due_of_listing(
     epoch: u64,
     bytes: &[u8],
 ) -> Result<Vec<u8>, CommandFault>
-    requires numbers { IsAllowedTool (Tool.Back start epoch) }
+    requires numbers { IsAllowedTool (BackTool start epoch) }
     requires short { length bytes.now ≤ longest_file }
-    ensures text { IfOk result (λ text. IsListing (Tool.Back start epoch) (Some bytes.now) text.items) }
-    ensures fault { IfErr result (IsReadFault (Tool.Back start epoch) bytes.now) }
+    ensures text { IfOk result (λ text. IsListing (BackTool start epoch) (Some bytes.now) text.items) }
+    ensures fault { IfErr result (IsReadFault (BackTool start epoch) bytes.now) }
 {
     match back(alloc, bytes, start, epoch) {
         Back::Segment(segment) => Ok(segment),
@@ -95,25 +110,26 @@ fn due_of_listing(
 }
 
 /// What is due of a file's bytes.
-fn due_of_bytes(alloc: Global, tool: Tool, bytes: &[u8]) -> Result<Vec<u8>, CommandFault>
-    requires tool { IsAllowedTool tool }
+fn due_of_bytes(alloc: Global, tool: Tool<'_>, bytes: &[u8]) -> Result<Vec<u8>, CommandFault>
+    requires tool { IsAllowedTool (shown tool) }
     requires short { length bytes.now ≤ longest_file }
-    ensures text { IfOk result (λ text. IsListing tool (Some bytes.now) text.items) }
-    ensures fault { IfErr result (IsReadFault tool bytes.now) }
+    ensures text { IfOk result (λ text. IsListing (shown tool.entry) (Some bytes.now) text.items) }
+    ensures fault { IfErr result (IsReadFault (shown tool.entry) bytes.now) }
 {
     match tool {
         Tool::Oev(of) => due_of_segment(alloc, of, bytes),
         Tool::Oiv(of) => due_of_image(alloc, of, bytes),
+        Tool::Ls { path } => due_of_path(alloc, path, bytes),
         Tool::Back { start, epoch } => due_of_listing(alloc, start, epoch, bytes),
     }
 }
 
 /// What is due of what was found under the name.
-fn due_of_found(alloc: Global, tool: Tool, found: &Found) -> Result<Vec<u8>, CommandFault>
-    requires tool { IsAllowedTool tool }
+fn due_of_found(alloc: Global, tool: Tool<'_>, found: &Found) -> Result<Vec<u8>, CommandFault>
+    requires tool { IsAllowedTool (shown tool) }
     requires short { IsShort found.now }
-    ensures text { IfOk result (λ text. GivesFound tool found.now text.items) }
-    ensures fault { IfErr result (IsFoundFault tool found.now) }
+    ensures text { IfOk result (λ text. GivesFound (shown tool.entry) found.now text.items) }
+    ensures fault { IfErr result (IsFoundFault (shown tool.entry) found.now) }
 {
     match found {
         Found::Absent => Err(CommandFault::NoFile),
@@ -125,13 +141,13 @@ fn due_of_found(alloc: Global, tool: Tool, found: &Found) -> Result<Vec<u8>, Com
 /// Reads the file that has this name and tells what is due of it.
 fn due_of_name<D: Disk>(
     alloc: Global,
-    tool: Tool,
+    tool: Tool<'_>,
     name: &str,
     disk: &mut D,
 ) -> Result<Vec<u8>, CommandFault>
-    requires { IsAllowedTool tool }
-    ensures text { IfOk result (λ text. GivesListing tool name.now (done_to D.tells D.view D.faults D.steady D.left disk.old disk.new) Status.Ok text.items) }
-    ensures fault { IfErr result (IsListFault tool name.now (done_to D.tells D.view D.faults D.steady D.left disk.old disk.new)) }
+    requires { IsAllowedTool (shown tool) }
+    ensures text { IfOk result (λ text. GivesListing (shown tool.entry) name.now (done_to D.tells D.view D.faults D.steady D.left disk.old disk.new) Status.Ok text.items) }
+    ensures fault { IfErr result (IsListFault (shown tool.entry) name.now (done_to D.tells D.view D.faults D.steady D.left disk.old disk.new)) }
     ensures call { IsDiskRun D.DiskModel disk.old disk.new (answer_of result) }
     ensures rests { IfTold D.DiskModel disk.old disk.new Rests }
 {
@@ -145,13 +161,13 @@ fn due_of_name<D: Disk>(
 /// Writes what the tool makes of the file that has this name.
 pub fn list_file<K: Sink, D: Disk>(
     alloc: Global,
-    tool: Tool,
+    tool: Tool<'_>,
     name: &str,
     sink: &mut K,
     disk: &mut D,
 ) -> Status
-    requires { IsAllowedTool tool }
-    ensures lists { Lists tool name.now (done_to D.tells D.view D.faults D.steady D.left disk.old disk.new) (written_to K.taken K.faults K.kept_back sink.old sink.new) result }
+    requires { IsAllowedTool (shown tool) }
+    ensures lists { Lists (shown tool.entry) name.now (done_to D.tells D.view D.faults D.steady D.left disk.old disk.new) (written_to K.taken K.faults K.kept_back sink.old sink.new) result }
     ensures tells { D.tells disk.old ↔ D.tells disk.new }
 {
     let due = due_of_name(alloc, tool, name, disk);

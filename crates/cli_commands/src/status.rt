@@ -11,8 +11,8 @@ pub enum Status {
     /// request.
     BadScript,
     /// The bytes of the named file aren't those of a segment's file, of an image or of a listing as
-    /// JSON, as they are to be, or there is no such file; or a file of the node isn't in its
-    /// format.
+    /// JSON, as they are to be, or there is no such file; or the image has nothing at the path; or a
+    /// file of the node isn't in its format.
     BadBytes,
     /// The script has more than 1,048,576 bytes, or its report more than 268,435,456; or the named
     /// file has more than 134,217,728; or a listing has more than 16,384 entries; or a node's

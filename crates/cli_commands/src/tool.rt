@@ -23,10 +23,12 @@ pub enum ImageTool {
 }
 
 /// What is made of which kind of file.
-#[derive(Clone, Copy, Debug, PartialEq, Eq)]
-pub enum Tool {
+#[derive(Clone, Copy)]
+pub enum Tool<'a> {
     Oev(SegmentTool),
     Oiv(ImageTool),
+    /// What stands at this path of an image.
+    Ls { path: &'a str },
     /// The segment from this txid on, under this epoch, of the edits whose listing as JSON the file
     /// is.
     Back { start: u64, epoch: u64 },

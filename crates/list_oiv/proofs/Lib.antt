@@ -3,3 +3,4 @@ pub mod Counting
 pub mod Fitting
 pub mod OneAnswer
 pub mod Taking
+pub mod Directories

@@ -3,3 +3,4 @@ pub mod Sizes
 pub mod Entries
 pub mod Listed
 pub mod Examples
+pub mod Directory

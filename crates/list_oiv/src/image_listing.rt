@@ -28,3 +28,15 @@ pub enum ImageListing {
     /// Memory was wanted and not there.
     OutOfMemory,
 }
+
+/// What stands at a path of an image, or the first fault of the bytes.
+#[derive(Drop)]
+pub enum PathListing {
+    Text(Vec<u8>),
+    /// Nothing in the image has the path.
+    NoPath,
+    /// The place is that of the first byte of the field, and for Trailing the end of the image.
+    BadBytes { place: u64, cause: ImageByteCause },
+    /// Memory was wanted and not there.
+    OutOfMemory,
+}

@@ -2,6 +2,7 @@
 #![tactic(auto)]
 
 mod causes;
+mod directory;
 mod entries;
 mod image_listing;
 mod lines;
@@ -10,6 +11,10 @@ mod tally;
 mod tools;
 mod worked;
 
-pub use image_listing::{ImageByteCause, ImageListing};
+pub use directory::list_path;
+pub use image_listing::{ImageByteCause, ImageListing, PathListing};
 pub use tools::{json, list_delimited, sizes};
-pub use worked::{known_images_have_listings, known_rows_have_listings, sizes_have_classes};
+pub use worked::{
+    known_directories_have_listings, known_images_have_listings, known_rows_have_listings,
+    sizes_have_classes,
+};

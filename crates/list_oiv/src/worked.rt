@@ -1,7 +1,8 @@
 //! Worked examples of listings, computed when the crate is checked.
-ghost use Rattle.std.specs.Prelude.{◌≡◌, [], ◌∷◌, ◌++◌, codes};
+ghost use Rattle.std.specs.Prelude.{◌≡◌, [], ◌∷◌, ◌++◌, codes, Some, None};
 ghost use Rattle.ns_tree.specs.Space.{empty_space, root_pair};
 ghost use Rattle.list_oiv.specs.Delimited.{delimited};
+ghost use Rattle.list_oiv.specs.Directory.{path_listing};
 ghost use Rattle.list_oiv.specs.Sizes.{class_of, sizes};
 ghost use Rattle.list_oiv.specs.Entries.{rows_json};
 ghost use Rattle.list_oiv.specs.Examples.{known_rows};
@@ -32,4 +33,13 @@ pub fn sizes_have_classes()
     ensures giga { class_of 1073741824 ≡ 3 }
     ensures tera { class_of 1099511627776 ≡ 4 }
     ensures more { class_of 1099511627777 ≡ 5 }
+{}
+
+/// The root of a file and a directory; the file; a directory without entries; and what isn't there.
+pub fn known_directories_have_listings()
+    ensures root { path_listing (codes "/") known_rows
+        ≡ Some (codes "Found 2 items\n-rw-r--r-- 3 u g 1048600 10 /f\ndrwxrwxrwt - u g 0 7 /t\n") }
+    ensures file { path_listing (codes "/f") known_rows ≡ Some (codes "-rw-r--r-- 3 u g 1048600 10 /f\n") }
+    ensures empty { path_listing (codes "/t") known_rows ≡ Some [] }
+    ensures absent { path_listing (codes "/t/") known_rows ≡ None }
 {}

@@ -148,6 +148,7 @@ module _ (source : SourceUse) (s : ScriptView) (b : Booted) (given : GivesNames 
   text_fault (fault.BadBytes place cause) is = absurd is
   text_fault (fault.BadImage place cause) is = absurd is
   text_fault (fault.BadFile name) is = absurd is
+  text_fault fault.NoPath is = absurd is
   text_fault fault.NotJson is = absurd is
   text_fault (fault.BadEntry index) is = absurd is
   text_fault (fault.TooManyEntries number) is = absurd is

@@ -76,6 +76,7 @@ names_fault bytes fault.NoFile none is = absurd is
 names_fault bytes (fault.BadBytes place cause) none is = absurd is
 names_fault bytes (fault.BadImage place cause) none is = absurd is
 names_fault bytes (fault.BadFile name) none is = absurd is
+names_fault bytes fault.NoPath none is = absurd is
 names_fault bytes fault.NotJson none is = absurd is
 names_fault bytes (fault.BadEntry index) none is = absurd is
 names_fault bytes (fault.TooManyEntries number) none is = absurd is

@@ -21,7 +21,7 @@ use Rattle.cli_commands.specs.declared.status.Status.TheVariants as status
 use Rattle.cli_commands.specs.declared.command_fault.CommandFault.{CommandFault}
 use Rattle.cli_commands.specs.declared.command_fault.CommandFault.TheVariants as fault
 use Rattle.cli_commands.specs.declared.command.Command.{Command}
-use Rattle.cli_commands.specs.declared.tool.Tool.{Tool}
+use Rattle.cli_commands.specs.Tools.{Tool}
 use Rattle.cli_commands.specs.Uses.{SourceUse, SinkUse, DiskUse}
 use Rattle.cli_commands.specs.Faults.{status_of}
 use Rattle.cli_commands.specs.Told.{IsToldAs, TellsFault, TellsText, Told, wrote_text, told_fault}
@@ -99,6 +99,7 @@ module _ (Leaves : ScriptView → Mesh → List End → Type 0) (source : Source
   play_fault (fault.BadBytes place cause) s sink is tells = absurd is
   play_fault (fault.BadImage place cause) s sink is tells = absurd is
   play_fault (fault.BadFile name) s sink is tells = absurd is
+  play_fault fault.NoPath s sink is tells = absurd is
   play_fault fault.NotJson s sink is tells = absurd is
   play_fault (fault.BadEntry index) s sink is tells = absurd is
   play_fault (fault.TooManyEntries number) s sink is tells = absurd is
@@ -126,6 +127,7 @@ module _ (source : SourceUse) (right : HasPiped source) (reads : Rose source.fau
   piped_fault (fault.BadBytes place cause) s sink is tells = absurd is
   piped_fault (fault.BadImage place cause) s sink is tells = absurd is
   piped_fault (fault.BadFile name) s sink is tells = absurd is
+  piped_fault fault.NoPath s sink is tells = absurd is
   piped_fault fault.NotJson s sink is tells = absurd is
   piped_fault (fault.BadEntry index) s sink is tells = absurd is
   piped_fault (fault.TooManyEntries number) s sink is tells = absurd is
@@ -149,6 +151,7 @@ module _ (source : SourceUse) (right : HasText source) (reads : Rose source.faul
   mirror_fault (fault.BadBytes place cause) s sink is tells = absurd is
   mirror_fault (fault.BadImage place cause) s sink is tells = absurd is
   mirror_fault (fault.BadFile name) s sink is tells = absurd is
+  mirror_fault fault.NoPath s sink is tells = absurd is
   mirror_fault fault.NotJson s sink is tells = absurd is
   mirror_fault (fault.BadEntry index) s sink is tells = absurd is
   mirror_fault (fault.TooManyEntries number) s sink is tells = absurd is
@@ -187,6 +190,7 @@ module _ (source : SourceUse) (right : HasNames source) (reads : Rose source.fau
   boot_fault (fault.BadBytes place cause) s sink is tells = absurd is
   boot_fault (fault.BadImage place cause) s sink is tells = absurd is
   boot_fault (fault.BadFile name) s sink is tells = absurd is
+  boot_fault fault.NoPath s sink is tells = absurd is
   boot_fault fault.NotJson s sink is tells = absurd is
   boot_fault (fault.BadEntry index) s sink is tells = absurd is
   boot_fault (fault.TooManyEntries number) s sink is tells = absurd is
@@ -208,6 +212,7 @@ summary_fault fault.NoFile s sink is tells = absurd is
 summary_fault (fault.BadBytes place cause) s sink is tells = absurd is
 summary_fault (fault.BadImage place cause) s sink is tells = absurd is
 summary_fault (fault.BadFile name) s sink is tells = absurd is
+summary_fault fault.NoPath s sink is tells = absurd is
 summary_fault fault.NotJson s sink is tells = absurd is
 summary_fault (fault.BadEntry index) s sink is tells = absurd is
 summary_fault (fault.TooManyEntries number) s sink is tells = absurd is
@@ -245,6 +250,7 @@ module _ {D : Type 0} (of : Tool) (name : List ℕ) (disk : DiskUse D) (right : 
   list_fault (fault.BadImage place cause) s sink is tells = absurd (in_grammar of right.bytes (fault.BadImage place cause) right.is
       (there (λ file. IsFileFault of file (fault.BadImage place cause)) is).1)
   list_fault (fault.BadFile file) s sink is tells = absurd is
+  list_fault fault.NoPath s sink is tells = absurd (in_grammar of right.bytes fault.NoPath right.is (there (λ file. IsFileFault of file fault.NoPath) is).1)
   list_fault fault.NotJson s sink is tells = absurd (in_grammar of right.bytes fault.NotJson right.is (there (λ file. IsFileFault of file fault.NotJson) is).1)
   list_fault (fault.BadEntry index) s sink is tells = absurd (in_grammar of right.bytes (fault.BadEntry index) right.is (there (λ file. IsFileFault of file (fault.BadEntry index)) is).1)
   list_fault (fault.TooManyEntries number) s sink is tells = absurd (in_grammar of right.bytes (fault.TooManyEntries number) right.is
@@ -284,6 +290,7 @@ module _ {D : Type 0} (disk : DiskUse D) (calls : Rose (disk.faults disk.before)
   check_fault (fault.BadBytes place cause) s sink is tells = absurd is
   check_fault (fault.BadImage place cause) s sink is tells = absurd is
   check_fault (fault.BadFile file) s sink is tells = absurd is
+  check_fault fault.NoPath s sink is tells = absurd is
   check_fault fault.NotJson s sink is tells = absurd is
   check_fault (fault.BadEntry index) s sink is tells = absurd is
   check_fault (fault.TooManyEntries number) s sink is tells = absurd is
@@ -392,6 +399,7 @@ module _ (source : SourceUse) (right : HasShort source) (reads : Rose source.fau
   judge_told told (fault.BadBytes place cause) s told_as is f = absurd f
   judge_told told (fault.BadImage place cause) s told_as is f = absurd f
   judge_told told (fault.BadFile name) s told_as is f = absurd f
+  judge_told told fault.NoPath s told_as is f = absurd f
   judge_told told fault.NotJson s told_as is f = absurd f
   judge_told told (fault.BadEntry index) s told_as is f = absurd f
   judge_told told (fault.TooManyEntries number) s told_as is f = absurd f

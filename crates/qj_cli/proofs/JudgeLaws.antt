@@ -47,6 +47,7 @@ fault_is source bytes fault.NoFile read n = absurd n
 fault_is source bytes (fault.BadBytes place cause) read n = absurd n
 fault_is source bytes (fault.BadImage place cause) read n = absurd n
 fault_is source bytes (fault.BadFile name) read n = absurd n
+fault_is source bytes fault.NoPath read n = absurd n
 fault_is source bytes fault.NotJson read n = absurd n
 fault_is source bytes (fault.BadEntry index) read n = absurd n
 fault_is source bytes (fault.TooManyEntries number) read n = absurd n

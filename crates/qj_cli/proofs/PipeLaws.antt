@@ -82,6 +82,7 @@ piped_fault source script m ends fault.NoFile given sound is = absurd is
 piped_fault source script m ends (fault.BadBytes place cause) given sound is = absurd is
 piped_fault source script m ends (fault.BadImage place cause) given sound is = absurd is
 piped_fault source script m ends (fault.BadFile name) given sound is = absurd is
+piped_fault source script m ends fault.NoPath given sound is = absurd is
 piped_fault source script m ends fault.NotJson given sound is = absurd is
 piped_fault source script m ends (fault.BadEntry index) given sound is = absurd is
 piped_fault source script m ends (fault.TooManyEntries number) given sound is = absurd is

@@ -72,6 +72,7 @@ report_fault Leaves source script m ends fault.NoFile given left is = absurd is
 report_fault Leaves source script m ends (fault.BadBytes place cause) given left is = absurd is
 report_fault Leaves source script m ends (fault.BadImage place cause) given left is = absurd is
 report_fault Leaves source script m ends (fault.BadFile name) given left is = absurd is
+report_fault Leaves source script m ends fault.NoPath given left is = absurd is
 report_fault Leaves source script m ends fault.NotJson given left is = absurd is
 report_fault Leaves source script m ends (fault.BadEntry index) given left is = absurd is
 report_fault Leaves source script m ends (fault.TooManyEntries number) given left is = absurd is

@@ -15,7 +15,7 @@ use Rattle.ns_tree.specs.declared.end.End.{End}
 use Rattle.play_script.specs.Scripts.{ScriptView}
 use Rattle.play_script.specs.Grammar.{IsScriptText}
 use Rattle.play_report.specs.Limit.{longest_report}
-use Rattle.cli_commands.specs.declared.tool.Tool.{Tool}
+use Rattle.cli_commands.specs.Tools.{Tool}
 use Rattle.cli_commands.specs.declared.status.Status.{Status}
 use Rattle.cli_commands.specs.declared.status.Status.TheVariants as status
 use Rattle.cli_commands.specs.Uses.{SourceUse, SinkUse, DiskUse, AReadFailed, AWriteFailed}
