@@ -12,7 +12,7 @@ _qjm_words() {
     2,oiv) echo 'delimited sizes json ls' ;;
     2,node) echo '--unchecked' ;;
     2,--version) echo '--check' ;;
-    2,cluster) echo 'up status log tell failover checkpoint trim kill hold release down' ;;
+    2,cluster) echo 'up down status check log failover auto restart tell checkpoint trim kill hold release adopt metrics keep' ;;
     *,draw) echo '--svg --whole' ;;
   esac
 }
