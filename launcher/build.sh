@@ -9,13 +9,12 @@ require_kit() {
   exit "$NO_KIT"
 }
 
-# How many crates to prove side by side: two a processor, since one that waits for a crate below it keeps its place, with 3 GB of
-# free memory each.
+# How many crates are proved side by side, as the kit does it: one a processor, with 3 GB of free memory each.
 count_jobs() {
   processors=$(getconf _NPROCESSORS_ONLN 2>/dev/null || echo 1)
   memory=$(awk '/^MemAvailable:/ { print int($2 / 3145728) }' /proc/meminfo 2>/dev/null)
   jobs=${memory:-1}
-  [ "$jobs" -le $((2 * processors)) ] || jobs=$((2 * processors))
+  [ "$jobs" -le "$processors" ] || jobs=$processors
   [ "$jobs" -ge 1 ] || jobs=1
   echo "$jobs"
 }
@@ -23,12 +22,22 @@ count_jobs() {
 # How long a build takes, foretold by what one took on a machine of four processors: two hours of one processor, and no less than
 # the longest chain of crates that stand on one another.
 foretell_build() {
-  jobs=$(count_jobs)
-  processors=$(getconf _NPROCESSORS_ONLN 2>/dev/null || echo 1)
-  [ "$jobs" -le "$processors" ] || jobs=$processors
-  minutes=$((120 / jobs))
+  minutes=$((120 / $(count_jobs)))
   [ "$minutes" -ge 25 ] || minutes=25
   echo "some $minutes minutes on this machine"
+}
+
+# Lays out in an empty folder what the program is built from, and what it is run on once it is, as a repository of its own: it has
+# no crate of tests and no must-fail edit. What rt ci passes there counts for rt ci here, and the other way round, since the kit
+# keeps both by the sums of what they read.
+lay_out_sources() {
+  # (the kit takes the folder that has one for a repository's top)
+  mkdir "$1/.git"
+  (cd "$top" && list_sources | sed "s|^$top/||" | tr '\n' '\0' | xargs -0 cp --parents -t "$1") || return
+  for file in args stdin stdout; do
+    [ ! -f "$top/crates/qjm/$file" ] || cp "$top/crates/qjm/$file" "$1/crates/qjm" || return
+  done
+  list_crates | awk 'NR == FNR { wanted[$1]; next } { split($0, name, /[: ]/) } name[1] in wanted' - "$top/crates.txt" >"$1/crates.txt"
 }
 
 # Says how far the build is: on a terminal in one line that is written anew, else in a line for each crate.
@@ -43,34 +52,34 @@ show_progress() {
   shown=$text shown_step=$1
 }
 
-# How many crates are proved, and which was the last: the prover's log names each one that is done.
+# How many crates are proved, and which was the last: the prover's log names each one that is done, or that an earlier run did.
 tell_step() {
   awk -v all="$crate_count" '
-    /^== summary$/ { is_over = 1 }
-    /^== / && !is_over { done++; name = $2 }
+    /^rt: [a-z0-9_]+ (proved$|is kept: )/ { done++; name = $2 }
     END {
-      if (is_over) printf "%d of %d crates proved; the program is built", done, all
+      if (done == all) printf "%d of %d crates proved; the program is built", done, all
       else printf "%d of %d crates proved%s, %d left", done, all, done ? " (" name " last)" : "", all - done
     }' "$build_log"
 }
 
-# Runs a command of the kit in the program's folder, shows how far it is until it ends, and returns its status.
+# Proves and builds in the folder where the sources are laid out, shows how far it is until it ends, and returns its status.
 run_kit() {
-  (cd "$top/crates/qjm" && exec rt "$@") </dev/null >>"$build_log" 2>&1 &
+  (cd "$1" && exec rt ci) </dev/null >>"$build_log" 2>&1 &
   prover=$!
   trap 'kill "$prover" 2>/dev/null; exit 130' INT TERM HUP
   while kill -0 "$prover" 2>/dev/null; do
     show_progress "$(tell_step)"
     sleep 2
   done
-  trap - INT TERM HUP
-  wait "$prover"
+  trap 'exit 130' INT
+  trap 'exit 143' TERM HUP
+  wait "$prover" && show_progress "$(tell_step)"
 }
 
 # Says that the build failed, with the crates that did, and where what the prover said stands.
 tell_failure() {
   say "not built; the prover's output stands in $build_log:"
-  grep ': failed (' "$build_log" >&2 || tail -n 5 "$build_log" >&2
+  grep -E '^rt: ([a-z0-9_]+ NOT PROVED|FAILED: )' "$build_log" >&2 || tail -n 5 "$build_log" >&2
 }
 
 # Proves and builds the program, where it isn't there. Ends with status 0, or with that of a program that isn't built.
@@ -84,12 +93,17 @@ build() {
   forget_program
   build_began=$(date +%s) crate_count=$(list_crates | wc -l) shown='' shown_step=''
   sum=$(sum_sources)
-  jobs=$(count_jobs)
-  say "first $((crate_count)) crates are proved, $jobs at a time, in any order but that each waits for those that it stands on"
+  tree=$top/crates/qjm/out/tree
+  trap 'rm -rf "$tree"' EXIT
+  rm -rf "$tree" && mkdir "$tree" && lay_out_sources "$tree" || {
+    say "not built: the sources couldn't be copied to $tree"
+    return "$NOT_BUILT"
+  }
+  say "first $((crate_count)) crates are proved, $(count_jobs) at a time, in any order but that each waits for those that it stands on"
   say "then the program is built, in a minute or two; all in all $(foretell_build)"
   say "what the prover says goes to $build_log; stopped and begun again, the build goes on where it was"
   : >"$build_log"
-  run_kit all check --jobs "$jobs" && run_kit run
+  run_kit "$tree" && cp "$tree/crates/qjm/out/qjm" "$program"
   [ ! -t 2 ] || printf '\n' >&2
   if [ ! -x "$program" ]; then
     tell_failure
