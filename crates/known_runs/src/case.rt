@@ -45,6 +45,8 @@ pub struct Case {
     /// Whether it is done without threads, over a disk that doesn't tell its bytes.
     pub is_alone: bool,
     pub tells_files: bool,
+    /// Whether what the nodes of a play or a run leave is told.
+    pub tells_nodes: bool,
     pub tells_passes: bool,
     /// Whether what was written is told as hexadecimal digits.
     pub tells_digits: bool,
@@ -68,6 +70,7 @@ impl Case {
             hold: None,
             is_alone: false,
             tells_files: false,
+            tells_nodes: false,
             tells_passes: false,
             tells_digits: false,
         }

@@ -1,8 +1,10 @@
 //! The lines of a case.
 use crate::case::{Case, DiskBefore, LostCalls, NamedFile};
-use crate::hold::Hold;
+use crate::hold::{Called, Hold};
 use anyhow::bail;
-use case_files::{CaseText, bytes_of, choice_of, put_input, two_words, word_and_rest};
+use case_files::{
+    CaseText, bytes_of, choice_of, number_and_rest, put_input, two_words, word_and_rest,
+};
 use std::alloc::{AllocError, Global};
 use std::fs;
 use std::fs::Files;
@@ -49,6 +51,7 @@ impl Case {
             "again" => self.before = DiskBefore::Kept,
             "alone" => self.is_alone = true,
             "files" => self.tells_files = true,
+            "nodes" => self.tells_nodes = true,
             "passes" => self.tells_passes = true,
             "digits" => self.tells_digits = true,
             _ => return false,
@@ -71,11 +74,25 @@ impl LostCalls {
     }
 }
 
+/// `CALLER NODE`, and what comes behind them.
+fn called_of(text: &str) -> anyhow::Result<(Called, &str)> {
+    let (caller, rest) = two_words(text)?;
+    let (node, rest) = number_and_rest(rest)?;
+    let called = Called {
+        caller: caller.parse()?,
+        node: node as usize,
+    };
+    Ok((called, rest))
+}
+
+/// `CALLER NODE CALLER NODE COUNT`.
 fn hold_of(text: &str) -> anyhow::Result<Hold> {
-    let (node, until) = two_words(text)?;
+    let (held, rest) = called_of(text)?;
+    let (until, count) = called_of(rest)?;
     Ok(Hold {
-        node: node.parse()?,
-        until: until.parse()?,
+        held,
+        until,
+        count: count.parse()?,
     })
 }
 

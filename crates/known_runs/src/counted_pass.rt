@@ -35,10 +35,10 @@ impl CountedPass {
 }
 
 impl Pass for CountedPass {
-    fn pass<R: Wait>(&self, _rt: &R, _caller: u32, node: usize) {
+    fn pass<R: Wait>(&self, _rt: &R, caller: u32, node: usize) {
         self.passes.fetch_add(1, Ordering::SeqCst);
         if let Some(holding) = &self.holding {
-            holding.pass(node);
+            holding.pass(caller, node);
         }
     }
 }

@@ -5,23 +5,30 @@ use std::thread;
 /// How often a hold looks before it gives up.
 const LOOKS: u64 = 1_000_000;
 
-/// Which call is held: the first to a node, until one to another begins.
+/// A caller, from 0 in the order of the script, and a node that it calls, from 1.
+#[derive(Clone, Copy)]
+pub struct Called {
+    pub caller: u32,
+    pub node: usize,
+}
+
+/// Which call is held: the first of a caller to a node, until so many of a caller to a node have
+/// begun. If that is another caller, it makes none before the held one has come.
 #[derive(Clone, Copy)]
 pub struct Hold {
-    /// The node, from 1.
-    pub node: usize,
-    /// The other one.
-    pub until: usize,
+    pub held: Called,
+    pub until: Called,
+    pub count: u64,
 }
 
 /// How a hold ended.
 #[derive(Clone, Copy, Debug)]
 pub enum HoldEnd {
-    /// No call to the node came.
+    /// The call that is to be held didn't come.
     NoCall,
-    /// The other call began.
+    /// So many calls began.
     Kept,
-    /// The other call didn't begin, however long the first was held.
+    /// They didn't, however long a call was held.
     InVain,
 }
 
@@ -45,19 +52,26 @@ impl Holding {
         }
     }
 
-    /// A call to this node begins.
-    pub fn pass(&self, node: usize) {
-        if node == self.hold.until {
-            self.began.store(1, Ordering::SeqCst);
+    /// A call of this caller to this node begins.
+    pub fn pass(&self, caller: u32, node: usize) {
+        let Hold { held, until, count } = self.hold;
+        if caller == until.caller {
+            if caller != held.caller {
+                self.wait(&self.came, 1);
+            }
+            if node == until.node {
+                self.began.fetch_add(1, Ordering::SeqCst);
+            }
         }
-        if node == self.hold.node && self.came.swap(1, Ordering::SeqCst) == 0 {
-            self.wait();
+        if caller == held.caller && node == held.node && self.came.swap(1, Ordering::SeqCst) == 0 {
+            self.wait(&self.began, count);
         }
     }
 
-    fn wait(&self) {
+    /// Waits until so many have come, or in vain.
+    fn wait(&self, came: &AtomicU64, count: u64) {
         for _ in 0..LOOKS {
-            if self.began.load(Ordering::SeqCst) == 1 {
+            if came.load(Ordering::SeqCst) >= count {
                 return;
             }
             thread::yield_now();

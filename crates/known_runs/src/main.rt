@@ -9,6 +9,7 @@ mod case_line;
 mod counted_pass;
 mod doing;
 mod hold;
+mod left;
 mod telling;
 
 use crate::case::Case;

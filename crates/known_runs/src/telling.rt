@@ -1,16 +1,19 @@
 //! What a case came to is told.
 use crate::case::Case;
 use crate::doing::Done;
+use crate::left::tell_left;
 use base_disk::{Disk, MemDisk};
 use cli_commands::Status;
 use std::io;
 use std::io::Write;
+use std::sync::Wait;
+use std::thread::Threads;
 
 /// The most bytes of a file that are told.
 const SHOWN: usize = 1000;
 
 /// Tells what the case wrote, its status, and what it asks for.
-pub fn tell<R: Print + AllocGlobal>(
+pub fn tell<R: Print + Threads + Wait + Sync + AllocGlobal>(
     rt: &R,
     case: &Case,
     done: &Done,
@@ -26,6 +29,9 @@ pub fn tell<R: Print + AllocGlobal>(
     }
     if case.tells_files {
         tell_files(rt, disk)?;
+    }
+    if case.tells_nodes {
+        tell_left(rt, case)?;
     }
     println!(rt; "")?;
     Ok(())
@@ -48,7 +54,8 @@ fn tell_status(rt: &impl Print, status: Option<Status>) -> io::Result<()> {
     }
 }
 
-fn tell_files<R: Print + AllocGlobal>(rt: &R, disk: &mut MemDisk) -> anyhow::Result<()> {
+/// Tells each file of the disk: its name and its first bytes.
+pub fn tell_files<R: Print + AllocGlobal>(rt: &R, disk: &mut MemDisk) -> anyhow::Result<()> {
     let names = disk.list()?;
     for name in names.iter() {
         tell_file(rt, disk, name)?;

@@ -1,5 +1,5 @@
 //! The kinds of questions.
-use crate::{backs, edits, files, names, sessions, texts};
+use crate::{backs, edits, files, names, sessions, texts, worlds, writers};
 use base_words::OutOfMemory;
 use std::alloc::Global;
 
@@ -27,6 +27,8 @@ pub enum Kind {
     Saved,
     Names,
     Session,
+    World,
+    Writer,
 }
 
 /// The words of the kinds, each with what is asked.
@@ -71,6 +73,9 @@ const KINDS: &[(&str, Kind)] = &[
     // Lines to a new node: requests, `stop COUNT REQUEST`, `cut CALLS CHOICE REQUEST` and
     // `restart`; at the end its state.
     ("session", Kind::Session),
+    // Events at a world, and a writer call by call: `worlds.rt` and `writers.rt` have the lines.
+    ("world", Kind::World),
+    ("writer", Kind::Writer),
 ];
 
 impl Kind {
@@ -84,8 +89,20 @@ impl Kind {
         None
     }
 
-    /// Appends the answer of bytes.
-    pub fn answer(self, alloc: Global, asked: &[u8], out: &mut Vec<u8>) -> Result<(), OutOfMemory> {
+    /// Appends the answer of bytes. An `Err` is lack of memory, or says that a line of a world or
+    /// of a writer is none.
+    pub fn answer(self, alloc: Global, asked: &[u8], out: &mut Vec<u8>) -> anyhow::Result<()> {
+        let mut told = String::new(alloc);
+        match self {
+            Kind::World => worlds::tell_world(alloc, asked, &mut told)?,
+            Kind::Writer => writers::tell_writer(alloc, asked, &mut told)?,
+            _ => self.tell(alloc, asked, out)?,
+        }
+        out.extend_from_slice(told.as_bytes())?;
+        Ok(())
+    }
+
+    fn tell(self, alloc: Global, asked: &[u8], out: &mut Vec<u8>) -> Result<(), OutOfMemory> {
         match self {
             Kind::Decimal => texts::tell_decimal(asked, out),
             Kind::Octal => texts::tell_octal(asked, out),
@@ -110,6 +127,7 @@ impl Kind {
             Kind::Saved => files::tell_saved(alloc, asked, out),
             Kind::Names => names::tell_names(alloc, asked, out),
             Kind::Session => sessions::tell_session(alloc, asked, out),
+            Kind::World | Kind::Writer => Ok(()),
         }
     }
 }

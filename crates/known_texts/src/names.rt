@@ -33,6 +33,8 @@ fn tell_space(
     for line in text.lines() {
         if let Some(edit) = line.strip_prefix("? ") {
             judge(alloc, space, edit, out)?;
+        } else if let Some(path) = line.strip_prefix("children ") {
+            put_children(alloc, space, path, out)?;
         }
     }
     put_space(alloc, space, out)
@@ -45,7 +47,7 @@ fn log_of(alloc: Global, text: &str, out: &mut Vec<u8>) -> Result<BodyList, OutO
         match body_of(alloc, line)? {
             Some(body) => bodies.push(body)?,
             None => {
-                if !line.starts_with("? ") {
+                if !line.starts_with("? ") && !line.starts_with("children ") {
                     out.extend_from_slice(b"no edit\n")?;
                 }
             }
@@ -96,6 +98,21 @@ fn replay_in(
     }
     let replayed = replay(alloc, space, &batch);
     put_shown(alloc, &replayed, out)?;
+    out.extend_from_slice(b"\n")
+}
+
+// The names under a path.
+fn put_children(
+    alloc: Global,
+    space: &Namespace,
+    path: &str,
+    out: &mut Vec<u8>,
+) -> Result<(), OutOfMemory> {
+    out.extend_from_slice(path.as_bytes())?;
+    for name in space.children(alloc, path.as_bytes())?.iter() {
+        out.push(b' ')?;
+        out.extend_from_slice(name.as_slice())?;
+    }
     out.extend_from_slice(b"\n")
 }
 

@@ -1,8 +1,8 @@
 //! Lists of known and of random plays agree, and fresh nodes that take their epoch orders come to
 //! the states of their nodes. What is mixed of two plays doesn't agree.
 use crate::draws::{Draws, draw_script};
-use crate::plays::{mesh_of, order_of, play_text};
-use crate::replayed::are_replayed;
+use crate::plays::{mesh_of, play_text};
+use crate::replayed::is_replayed;
 use journal_core::OutOfMemory;
 use mesh::Mesh;
 use mesh_judge::agrees;
@@ -29,13 +29,9 @@ const CUT: &str =
 /// nodes' states.
 fn is_played(rt: &impl Abort, alloc: Global, text: &str) -> Result<(), Fail> {
     let played = play_text(alloc, text.as_bytes())?;
-    let Some(events) = order_of(alloc, &played.mesh)? else {
-        return Err("the lists don't agree".into());
-    };
-    assert!(rt;
-        are_replayed(alloc, &events, played.nodes.as_slice()),
-        "{text}"
-    );
+    let replayed = is_replayed(alloc, &played);
+    drop(played);
+    assert!(rt; replayed?, "{text}");
     Ok(())
 }
 

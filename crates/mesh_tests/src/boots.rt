@@ -1,6 +1,6 @@
-//! A standby boots over the nodes and from the images that a play leaves: from a damaged image, onto
-//! a disk that has one, over disks of which each call fails in turn.
-use crate::plays::play_text_on;
+//! A standby boots over the nodes and from the images that a play leaves: from a damaged image,
+//! onto a disk that has one, over disks of which each call fails in turn.
+use crate::plays::{images_of, nodes_of};
 use base_disk::{Choice, Disk, MemDisk, UntoldDisk};
 use ns_image::ImageCause;
 use ns_store::{LoadedBytes, Newest, load_bytes, newest, save_bytes};
@@ -62,7 +62,7 @@ struct Disks {
 
 /// The disk of the play's first actor, and one of no files.
 fn disks_of(alloc: Global) -> Result<Disks, Fail> {
-    let Some(from) = play_text_on(alloc, CHECKPOINT.as_bytes())?.images.pop() else {
+    let Some(from) = images_of(alloc, CHECKPOINT.as_bytes())?.pop() else {
         return Err("no actor".into());
     };
     Ok(Disks {
@@ -73,7 +73,7 @@ fn disks_of(alloc: Global) -> Result<Disks, Fail> {
 
 /// What comes of a bootstrap over these disks and the nodes of the play.
 fn boot(alloc: Global, disks: &mut Disks) -> Result<Came, Fail> {
-    let nodes = play_text_on(alloc, CHECKPOINT.as_bytes())?.played.nodes;
+    let nodes = nodes_of(alloc, CHECKPOINT.as_bytes())?;
     if nodes.is_empty() {
         return Err("no node".into());
     }

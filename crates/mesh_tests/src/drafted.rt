@@ -119,22 +119,24 @@ fn record_of(alloc: Global, caller: u32, lines: &[Line]) -> Result<RecordList, O
     Ok(record)
 }
 
-/// The mesh of two nodes and two callers with such lists, and a mark of the first caller's.
-fn mesh_told(
-    alloc: Global,
-    at_nodes: &[Line],
-    at_callers: &[Line],
-    mark: Option<Mark>,
-) -> Result<Mesh, OutOfMemory> {
-    let histories = vec![in alloc;
-        history_of(alloc, 1, at_nodes)?,
-        history_of(alloc, 2, at_nodes)?,
-    ]?;
-    let records = vec![in alloc;
-        record_of(alloc, 0, at_callers)?,
-        record_of(alloc, 1, at_callers)?,
-        RecordList::new(alloc),
-    ]?;
+fn histories_of(alloc: Global, lines: &[Line]) -> Result<HistoryTable, OutOfMemory> {
+    let mut histories = HistoryTable::new(alloc);
+    for node in 1..=2 {
+        histories.push(history_of(alloc, node, lines)?)?;
+    }
+    Ok(histories)
+}
+
+/// The records of two callers and of an operator who did nothing.
+fn records_of(alloc: Global, lines: &[Line]) -> Result<RecordTable, OutOfMemory> {
+    let mut records = RecordTable::new(alloc);
+    for caller in 0..3 {
+        records.push(record_of(alloc, caller, lines)?)?;
+    }
+    Ok(records)
+}
+
+fn plan_of(alloc: Global, mark: Option<Mark>) -> Result<Plan, OutOfMemory> {
     let mut marks = ActorPlan::new(alloc);
     if let Some(mark) = mark {
         marks.push(mark)?;
@@ -142,12 +144,38 @@ fn mesh_told(
     let mut plan = Plan::new(alloc);
     plan.push(marks)?;
     plan.push(ActorPlan::new(alloc))?;
+    Ok(plan)
+}
+
+/// The mesh of two nodes and two callers with such lists, and a mark of the first caller's.
+fn mesh_told(
+    alloc: Global,
+    at_nodes: &[Line],
+    at_callers: &[Line],
+    mark: Option<Mark>,
+) -> Result<Mesh, OutOfMemory> {
+    let plan = plan_of(alloc, mark)?;
+    let histories = histories_of(alloc, at_nodes)?;
+    let records = records_of(alloc, at_callers)?;
     Ok(Mesh {
         nodes: 2,
-        histories: HistoryTable::of(histories),
-        records: RecordTable::of(records),
+        histories,
+        records,
         plan,
     })
+}
+
+/// Whether such a mesh agrees.
+fn do_agree(
+    alloc: Global,
+    at_nodes: &[Line],
+    at_callers: &[Line],
+    mark: Option<Mark>,
+) -> Result<bool, OutOfMemory> {
+    let mesh = mesh_told(alloc, at_nodes, at_callers, mark)?;
+    let told = agrees(alloc, &mesh);
+    drop(mesh);
+    told
 }
 
 #[test]
@@ -171,22 +199,17 @@ fn what_one_list_tells_otherwise_is_refused(rt: HostRuntime) -> Result<(), Fail>
     let (mut nodes, mut callers) = (at_nodes(), at_callers());
     nodes[2] = line_of(1, 1, Asked::State(0));
     callers[4] = line_of(1, 1, Asked::State(0));
-    assert!(rt; !agrees(alloc, &mesh_told(alloc, &nodes, &callers, None)?)?);
-    assert!(rt; !agrees(alloc, &mesh_told(alloc, &at_nodes(), &callers, None)?)?);
+    assert!(rt; !do_agree(alloc, &nodes, &callers, None)?);
+    assert!(rt; !do_agree(alloc, &at_nodes(), &callers, None)?);
     let muted = Mark {
         node: 2,
         number: 2,
         kind: MarkKind::Muted,
     };
-    assert!(rt;
-        !agrees(
-            alloc,
-            &mesh_told(alloc, &at_nodes(), &at_callers(), Some(muted))?
-        )?
-    );
+    assert!(rt; !do_agree(alloc, &at_nodes(), &at_callers(), Some(muted))?);
     let listed = [line_of(0, 1, Asked::Manifest)];
-    assert!(rt; !agrees(alloc, &mesh_told(alloc, &listed, &listed, None)?)?);
+    assert!(rt; !do_agree(alloc, &listed, &listed, None)?);
     let read = [line_of(0, 1, Asked::Read(7))];
-    assert!(rt; agrees(alloc, &mesh_told(alloc, &read, &read, None)?)?);
+    assert!(rt; do_agree(alloc, &read, &read, None)?);
     Ok(())
 }

@@ -1,5 +1,5 @@
 //! The images that plays leave, a disk for each actor.
-use crate::plays::play_text_on;
+use crate::plays::images_of;
 use base_disk::{Disk, DiskFail, MemDisk};
 use ns_store::txid_of;
 use std::alloc::Global;
@@ -19,9 +19,9 @@ fn images_on(alloc: Global, mut disk: MemDisk) -> Result<Vec<u64>, DiskFail> {
 }
 
 /// The txids of the images of each actor of the text's play.
-fn images_of(alloc: Global, text: &str) -> Result<Vec<Vec<u64>>, Fail> {
+fn txids_of(alloc: Global, text: &str) -> Result<Vec<Vec<u64>>, Fail> {
     let mut images = Vec::new(alloc);
-    for disk in play_text_on(alloc, text.as_bytes())?.images {
+    for disk in images_of(alloc, text.as_bytes())? {
         let Ok(txids) = images_on(alloc, disk) else {
             return Err("the disk fails".into());
         };
@@ -32,7 +32,7 @@ fn images_of(alloc: Global, text: &str) -> Result<Vec<Vec<u64>>, Fail> {
 
 #[test]
 fn each_actor_leaves_its_newest_images(rt: HostRuntime) -> Result<(), Fail> {
-    let images = images_of(rt.alloc(), CHECKPOINTS)?;
+    let images = txids_of(rt.alloc(), CHECKPOINTS)?;
     assert_eq!(rt; images.len(), 2);
     assert!(rt; images[0].is_empty());
     assert_eq!(rt; images[1].as_slice(), [3, 5].as_slice());
@@ -41,7 +41,7 @@ fn each_actor_leaves_its_newest_images(rt: HostRuntime) -> Result<(), Fail> {
 
 #[test]
 fn writers_leave_no_images(rt: HostRuntime) -> Result<(), Fail> {
-    let images = images_of(rt.alloc(), "raw 3\nwriter a\nwriter b\ntakeover a\n")?;
+    let images = txids_of(rt.alloc(), "raw 3\nwriter a\nwriter b\ntakeover a\n")?;
     assert_eq!(rt; images.len(), 2);
     assert!(rt; images[0].is_empty() && images[1].is_empty());
     Ok(())

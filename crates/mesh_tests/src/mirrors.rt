@@ -1,5 +1,5 @@
 //! A mirror of the nodes that plays leave: what it gives, and what a second pass adds.
-use crate::plays::play_text;
+use crate::plays::nodes_of;
 use journal_core::{Batch, Bytes};
 use std::alloc::Global;
 use std::process::Abort;
@@ -14,7 +14,7 @@ const LONGER: &str =
 
 /// A pass over the nodes of the text's play.
 fn sync_text(alloc: Global, mirror: &mut Mirror, text: &str) -> Result<Synced, Fail> {
-    let mut peers = Direct::new(alloc, play_text(alloc, text.as_bytes())?.nodes);
+    let mut peers = Direct::new(alloc, nodes_of(alloc, text.as_bytes())?);
     Ok(mirror.sync(alloc, &mut peers)?)
 }
 

@@ -1,4 +1,5 @@
 //! The play of a script's text, and whether what it leaves agrees.
+use base_disk::MemDisk;
 use journal_core::OutOfMemory;
 use journal_step::PlainNode;
 use mesh::Mesh;
@@ -11,7 +12,7 @@ use std::alloc::Global;
 use std::test::Fail;
 
 /// What the play of the text's script leaves, with its actors' images.
-pub(crate) fn play_text_on(alloc: Global, text: &[u8]) -> Result<PlayedOn<PlainNode>, Fail> {
+fn play_text_on(alloc: Global, text: &[u8]) -> Result<PlayedOn<PlainNode>, Fail> {
     scripts_break_no_rule();
     scripts_are_playable();
     let ReadScript::Script(script) = read_script(alloc, text) else {
@@ -23,12 +24,32 @@ pub(crate) fn play_text_on(alloc: Global, text: &[u8]) -> Result<PlayedOn<PlainN
 
 /// What the play of the text's script leaves.
 pub(crate) fn play_text(alloc: Global, text: &[u8]) -> Result<Played<PlainNode>, Fail> {
-    Ok(play_text_on(alloc, text)?.played)
+    let PlayedOn { played, images } = play_text_on(alloc, text)?;
+    drop(images);
+    Ok(played)
+}
+
+/// A disk of images for each actor of such a play.
+pub(crate) fn images_of(alloc: Global, text: &[u8]) -> Result<Vec<MemDisk>, Fail> {
+    let PlayedOn { played, images } = play_text_on(alloc, text)?;
+    drop(played);
+    Ok(images)
+}
+
+/// The nodes of such a play.
+pub(crate) fn nodes_of(alloc: Global, text: &[u8]) -> Result<Vec<PlainNode>, Fail> {
+    let Played { mesh, ends, nodes } = play_text(alloc, text)?;
+    drop(mesh);
+    drop(ends);
+    Ok(nodes)
 }
 
 /// The mesh of such a play.
 pub(crate) fn mesh_of(alloc: Global, text: &[u8]) -> Result<Mesh, Fail> {
-    Ok(play_text(alloc, text)?.mesh)
+    let Played { mesh, ends, nodes } = play_text(alloc, text)?;
+    drop(ends);
+    drop(nodes);
+    Ok(mesh)
 }
 
 /// The epoch order of a mesh; none where it doesn't agree.

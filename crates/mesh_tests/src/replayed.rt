@@ -1,6 +1,8 @@
 //! The epoch order of a run, taken by fresh nodes.
-use journal_core::{Node, NodeState, Segment};
+use crate::plays::order_of;
+use journal_core::{Node, NodeState, OutOfMemory, Segment};
 use journal_step::PlainNode;
+use play_model::Played;
 use run_safety::{Event, Fate};
 use std::alloc::Global;
 
@@ -77,7 +79,7 @@ fn is_same(a: &NodeState, b: &NodeState) -> bool {
 }
 
 /// Whether each node is as a fresh one that took the events at it.
-pub(crate) fn are_replayed(alloc: Global, events: &[Event], nodes: &[PlainNode]) -> bool {
+fn are_replayed(alloc: Global, events: &[Event], nodes: &[PlainNode]) -> bool {
     let mut number = 0usize;
     let mut same = true;
     for node in nodes {
@@ -85,4 +87,12 @@ pub(crate) fn are_replayed(alloc: Global, events: &[Event], nodes: &[PlainNode])
         same = same && is_same(node.state(), replayed(alloc, events, number).state());
     }
     same
+}
+
+/// Whether the lists agree, with an epoch order that leads fresh nodes to these nodes' states.
+pub(crate) fn is_replayed(alloc: Global, left: &Played<PlainNode>) -> Result<bool, OutOfMemory> {
+    match order_of(alloc, &left.mesh)? {
+        Some(events) => Ok(are_replayed(alloc, &events, left.nodes.as_slice())),
+        None => Ok(false),
+    }
 }

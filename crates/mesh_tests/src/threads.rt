@@ -1,11 +1,8 @@
 //! Lists of runs by threads agree, and fresh nodes that take their epoch orders come to the states
 //! of their nodes.
 use crate::draws::{Draws, draw_piped_script, draw_script};
-use crate::plays::order_of;
-use crate::replayed::are_replayed;
+use crate::replayed::is_replayed;
 use crate::running::{run_piped_text, run_text};
-use journal_step::PlainNode;
-use play_model::Played;
 use play_threads::FreePass;
 use std::alloc::Global;
 use std::process::Abort;
@@ -19,25 +16,12 @@ const ALL_LINES: &str =
 const COMPETING_NAMES: &str =
     "names 3\nname a\nname b\nname s\ntakeover a\nlog a mkdir /a 1 755 u g\ntakeover b\nlog b mkdir /b 2 755 u g\ntail s\ntail a\n";
 
-fn is_sound<R: Abort>(
-    rt: &R,
-    alloc: Global,
-    ran: &Played<PlainNode>,
-    text: &str,
-) -> Result<(), Fail> {
-    let Some(events) = order_of(alloc, &ran.mesh)? else {
-        return Err("the lists don't agree".into());
-    };
-    assert!(rt;
-        are_replayed(alloc, &events, ran.nodes.as_slice()),
-        "{text}"
-    );
-    Ok(())
-}
-
 fn is_run<R: Threads + Wait + Sync + Abort>(rt: &R, alloc: Global, text: &str) -> Result<(), Fail> {
     let ran = run_text(rt, alloc, text.as_bytes(), &FreePass)?;
-    is_sound(rt, alloc, &ran, text)
+    let replayed = is_replayed(alloc, &ran);
+    drop(ran);
+    assert!(rt; replayed?, "{text}");
+    Ok(())
 }
 
 fn is_piped<R: Threads + Wait + Sync + Abort>(
@@ -46,7 +30,10 @@ fn is_piped<R: Threads + Wait + Sync + Abort>(
     text: &str,
 ) -> Result<(), Fail> {
     let ran = run_piped_text(rt, alloc, text.as_bytes(), &FreePass)?;
-    is_sound(rt, alloc, &ran, text)
+    let replayed = is_replayed(alloc, &ran);
+    drop(ran);
+    assert!(rt; replayed?, "{text}");
+    Ok(())
 }
 
 #[test]

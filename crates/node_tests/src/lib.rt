@@ -1,24 +1,20 @@
-//! Tests of what no case tells: random sessions at a node over a disk beside a node in memory,
-//! worlds of nodes event by event, and writers at limits and over answers that no node gives.
+//! Tests of what no text shows: a real folder and its lock, the standard ends of a program, the
+//! order in which a session asks and answers, a disk that is lent, and the ring of newest edits.
 #![tactic(auto)]
 
 #[cfg(test)]
-mod bodies;
+mod ends;
 #[cfg(test)]
-mod draws;
+mod fake;
 #[cfg(test)]
-mod nodes;
+mod folders;
 #[cfg(test)]
-mod quorum_writers;
+mod lent;
 #[cfg(test)]
-mod requests;
+mod locks;
 #[cfg(test)]
-mod segments;
+mod opened;
+#[cfg(test)]
+mod rings;
 #[cfg(test)]
 mod sessions;
-#[cfg(test)]
-mod steps;
-#[cfg(test)]
-mod worlds;
-#[cfg(test)]
-mod writers;

@@ -1,100 +1,77 @@
-//! Sessions of ten thousand requests in all: each reply of a node over a disk is that of a node in
-//! memory.
-use crate::draws::Draws;
-use crate::nodes::Nodes;
-use crate::requests::draw_request;
-use base_disk::Choice;
-use journal_core::Request;
-use std::alloc::Global;
-use std::process::Abort;
-use std::test::Fail;
+//! A session at a node hands on each reply before it reads the next request.
+ghost use Rattle.std.specs.Prelude.{None};
 
-// How many requests a session has.
-const REQUESTS: u64 = 2_500;
+use base_outside::{Failed, Sink, Source};
+use journal_session::{Served, serve};
+use journal_step::PlainNode;
+use std::cell::Cell;
 
-// Once in so many requests the nodes are stopped within it; as often they are killed, and as often
-// the disk is opened again after a crash.
-const RARE: u64 = 60;
+// Gives the line `state` at each of three reads, and fails where the reply to the line before
+// isn't handed on.
+#[derive(Drop)]
+struct Asker<'a> {
+    given: u64,
+    answered: &'a Cell<u64>,
+    faults: u64,
+}
 
-fn draw_choice(draws: &mut Draws) -> Choice {
-    match draws.below(3) {
-        0 => Choice::Old,
-        1 => Choice::New,
-        _ => Choice::Fill(0xa5),
+impl Source for Asker<'_> {
+    ghost left = { λ _. None };
+
+    ghost faults = { λ s. s.faults };
+
+    fn read(&mut self, into: &mut [u8]) -> Result<usize, Failed> {
+        if self.answered.get() != self.given {
+            self.faults = self.faults.saturating_add(1);
+            return Err(Failed);
+        }
+        if self.given == 3 {
+            return Ok(0);
+        }
+        self.given = self.given.saturating_add(1);
+        let line = b"state\n".as_slice();
+        let count = line.len().min(into.len());
+        into[..count].copy_from_slice(&line[..count]);
+        Ok(count)
     }
 }
 
-// Whether the request was answered alike or stopped alike.
-fn take(
-    alloc: Global,
-    draws: &mut Draws,
-    nodes: &mut Nodes,
-    request: &Request,
-) -> Result<bool, Fail> {
-    if draws.is_one_in(RARE) {
-        nodes.stop_alike(alloc, request, draws.below(4))
-    } else {
-        nodes.answer_alike(alloc, request)
-    }
+// Counts what is handed on.
+#[derive(Drop)]
+struct Listener<'a> {
+    answered: &'a Cell<u64>,
 }
 
-// Whether one random request was.
-fn take_one(alloc: Global, draws: &mut Draws, nodes: &mut Nodes) -> Result<bool, Fail> {
-    let request = draw_request(alloc, draws, nodes.state())?;
-    let taken = take(alloc, draws, nodes, &request);
-    drop(request);
-    taken
-}
+impl Sink for Listener<'_> {
+    ghost taken = { λ _. None };
 
-// The nodes take one random request alike. Now and then they are killed, or the disk is opened
-// again.
-fn go_on(rt: &impl Abort, alloc: Global, draws: &mut Draws, nodes: &mut Nodes) -> Result<(), Fail> {
-    assert!(rt; take_one(alloc, draws, nodes)?);
-    if draws.is_one_in(RARE) {
-        nodes.restart(alloc)?;
-    }
-    if draws.is_one_in(RARE) {
-        nodes.reopen(alloc, draw_choice(draws))?;
-    }
-    Ok(())
-}
+    ghost faults = { λ _. 0 };
 
-// A session of these nodes.
-fn play(rt: &impl Abort, alloc: Global, seed: u64, nodes: &mut Nodes) -> Result<(), Fail> {
-    let mut draws = Draws::new(seed);
-    for _ in 0..REQUESTS {
-        go_on(rt, alloc, &mut draws, nodes)?;
-    }
-    Ok(())
-}
+    ghost kept_back = { λ _. 0 };
 
-// Each reply of the session is that of a node in memory, and many requests are done.
-fn is_alike(rt: &impl Abort, alloc: Global, seed: u64) -> Result<(), Fail> {
-    let mut nodes = Nodes::new(alloc)?;
-    let played = play(rt, alloc, seed, &mut nodes);
-    let answered = nodes.answered();
-    drop(nodes);
-    assert!(rt; answered.edits > REQUESTS / 20, "{} edits", answered.edits);
-    assert!(rt; answered.ok > REQUESTS / 4, "{} times ok", answered.ok);
-    played
+    fn write(&mut self, bytes: &[u8]) -> Result<usize, Failed> {
+        Ok(bytes.len())
+    }
+
+    fn flush(&mut self) -> Result<(), Failed> {
+        self.answered.set(self.answered.get().saturating_add(1));
+        Ok(())
+    }
 }
 
 #[test]
-fn a_first_session_is_alike(rt: HostRuntime) -> Result<(), Fail> {
-    is_alike(&rt, rt.alloc(), 1)
-}
-
-#[test]
-fn a_second_session_is_alike(rt: HostRuntime) -> Result<(), Fail> {
-    is_alike(&rt, rt.alloc(), 2)
-}
-
-#[test]
-fn a_third_session_is_alike(rt: HostRuntime) -> Result<(), Fail> {
-    is_alike(&rt, rt.alloc(), 3)
-}
-
-#[test]
-fn a_fourth_session_is_alike(rt: HostRuntime) -> Result<(), Fail> {
-    is_alike(&rt, rt.alloc(), 4)
+fn each_line_is_answered_before_the_next_is_read(rt: HostRuntime) {
+    let answered = Cell::new(0);
+    let mut node = PlainNode::new(rt.alloc());
+    let mut source = Asker {
+        given: 0,
+        answered: &answered,
+        faults: 0,
+    };
+    let mut sink = Listener {
+        answered: &answered,
+    };
+    let served = serve(rt.alloc(), &mut node, &mut source, &mut sink);
+    assert_eq!(rt; served, Served::Done);
+    assert_eq!(rt; answered.get(), 3);
 }

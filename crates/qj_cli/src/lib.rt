@@ -19,4 +19,5 @@ pub use laws::{
     files_have_one_listing, numbers_have_one_summary, reports_show_no_fault, scripts_have_one_boot,
     scripts_have_one_mirror, scripts_have_one_report,
 };
+pub use plays::{play_soundly, run_soundly};
 pub use top::{qjm, qjm_alone};
