@@ -1,8 +1,9 @@
 -- What every call over a disk promises, and what is said of a disk where it tells its bytes.
-use Rattle.std.specs.Prelude.{◌≡◌, ◌↔◌, ◌≤◌, ℕ, List, None, IsSome, Result}
+use Rattle.std.specs.Prelude.{◌≡◌, ◌↔◌, ◌≤◌, ℕ, List, None, IsSome, IsErrOf, Result}
 use Rattle.base_disk.specs.View.{View}
 use Rattle.base_disk.specs.Calls.{Budget, HasCause, HasShortage, Rose}
 use Rattle.base_disk.specs.declared.disk.DiskFail.{DiskFail}
+use Rattle.base_disk.specs.declared.disk.DiskFail.TheVariants.{OutOfMemory}
 use Rattle.base_disk.specs.declared.disk.DiskModel.{Ghosts}
 
 -- A run of disk calls, which may read, and may take memory of its own: the disk tells its bytes or
@@ -19,13 +20,14 @@ pub record IsDiskCall {D T : Type 0} (disk : Ghosts D) (old new : D) (result : R
   pub cause : HasCause (disk.faults old) (disk.faults new) (disk.steady old) (disk.steady new) result
   pub shortage : HasShortage (disk.shortages old) (disk.shortages new) result
 
--- One call of `read`: the count of reads rises.
+-- One call of `read`: the count of reads rises, and it takes no memory.
 pub record IsDiskRead {D T : Type 0} (disk : Ghosts D) (old new : D) (result : Result T DiskFail) : Type 0 where
   pub tells : disk.tells old ↔ disk.tells new
   pub reads : Rose (disk.reads old) (disk.reads new)
   pub later : disk.reads old ≤ disk.reads new
   pub cause : HasCause (disk.faults old) (disk.faults new) (disk.steady old) (disk.steady new) result
-  pub shortage : HasShortage (disk.shortages old) (disk.shortages new) result
+  pub memory : IsErrOf result OutOfMemory → ⊥
+  pub shortage : disk.shortages new ≡ disk.shortages old
 
 -- what holds of the views before and after, where the disk tells its bytes
 abbrev pub IfTold : {D : Type 0} → Ghosts D → D → D → (View → View → Type 0) → Type 0

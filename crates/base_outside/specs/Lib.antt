@@ -3,6 +3,7 @@ pub mod Faults
 pub mod Folder
 pub mod Memory
 pub mod Outcome
+pub mod Paths
 pub mod Plan
 pub mod Standard
 pub mod Whole

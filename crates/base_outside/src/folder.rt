@@ -1,14 +1,13 @@
-//! A folder of the system, and the calls that are made of it.
-ghost use Rattle.std.specs.Prelude.{◌≤◌, length, IfOk};
+//! A folder of the system, and what is decided over its calls.
+ghost use Rattle.std.specs.Prelude.{◌≡◌, ◌≤◌, IfOk, IsErrOf, OnOk, false, true, length};
+ghost use Rattle.base_disk.specs.declared.disk.DiskFail.TheVariants.{OutOfMemory};
+ghost use Rattle.base_outside.specs.Folder.{AreStored, IsSettled};
 
-use crate::lock_file::LockFile;
-use crate::written_file::WrittenFile;
-use std::alloc::AllocError;
-use std::fs::{DirEntry, File, Files, Metadata, OpenFile, OpenOptions, ReadDir, TryLockError};
-use std::io::{ErrorKind, Read, Seek, SeekFrom};
-use std::os::unix::fs::FileExt;
-use std::path::{Path, PathBuf};
-use std::{fs, io};
+use crate::folder_calls::{FolderCalls, Found, LockFolder};
+use crate::path_buffer::PathBuffer;
+use base_disk::DiskFail;
+use std::alloc::{AllocError, Global};
+use std::marker::Model;
 
 /// The one subfolder that names reach into.
 const SUBFOLDER: &str = "paxos";
@@ -16,29 +15,28 @@ const SUBFOLDER: &str = "paxos";
 /// What the names of its files begin with.
 const IN_SUBFOLDER: &str = "paxos/";
 
-/// A folder of the system. Its files are opened anew for each call, but for the one that was
-/// written last: it stays open, so that it is synced through the descriptor that wrote it, until
-/// another is written, a name changes or a call of it fails.
+/// A file that is open for writing, and how many bytes it has, as long as nothing else changes it.
 #[derive(Drop)]
-pub struct Folder<R: Files + Drop> {
-    rt: R,
-    path: String,
-    // no name changed since the folders were synced
-    are_names_synced: bool,
-    written: Option<WrittenFile<R::File>>,
-    // the folder itself, where this holds its lock
-    locked: Option<R::File>,
+struct WrittenFile<F: Drop> {
+    name: String,
+    open: F,
+    length: u64,
 }
 
-/// There is no file of such a name.
-fn is_absence(error: &io::Error) -> bool {
-    matches!(
-        error.kind(),
-        ErrorKind::NotFound
-            | ErrorKind::NotADirectory
-            | ErrorKind::InvalidFilename
-            | ErrorKind::FilesystemLoop
-    )
+/// A folder of the system. Its files are opened anew for each call, but for the one that was
+/// written last: it stays open, so that it is synced through the descriptor that wrote it (some
+/// systems tell a failed write to no other one), until another is written, a name changes or a call
+/// of it fails.
+#[derive(Drop)]
+pub struct Folder<S: FolderCalls + Drop> {
+    alloc: Global,
+    system: S,
+    path: PathBuffer,
+    other: PathBuffer,
+    written: Option<WrittenFile<S::Open>>,
+    // no name changed since the folders were synced
+    are_stored: bool,
+    is_stopped: bool,
 }
 
 /// The name is that of a file in the subfolder.
@@ -46,249 +44,307 @@ fn is_below(name: &str) -> bool {
     name.starts_with(IN_SUBFOLDER)
 }
 
-/// Reads until `into` is full or the file ends, and answers how many bytes.
-fn fill<F: Read>(file: &mut F, into: &mut [u8]) -> io::Result<usize>
-    ensures { IfOk result (λ n. n ≤ length into.new) }
-{
-    let mut at = 0;
-    while at < into.len() {
-        let (_, rest) = into.split_at_mut(at);
-        let count = file.read(rest)?;
-        if count == 0 {
-            return Ok(at);
-        }
-        at += count;
+/// The length of the file that was found; none where there is no file.
+fn length_of(found: Found) -> Option<u64> {
+    match found {
+        Found::File(length) => Some(length),
+        Found::Absent | Found::Folder | Found::Other => None,
     }
-    Ok(at)
 }
 
-impl<R: Files + AllocGlobal + Clone + Drop> Folder<R>
-where
-    R::File: FileExt,
-{
-    pub fn new(rt: R, path: &str) -> Result<Folder<R>, AllocError> {
-        let path = String::from_str(rt.alloc(), path)?;
+/// The file that is open has this name.
+fn has_name<F: Drop>(written: &Option<WrittenFile<F>>, name: &str) -> bool {
+    match written {
+        Some(file) => file.name.as_str() == name,
+        None => false,
+    }
+}
+
+/// The call's condition is met; else it fails.
+fn expect(is_met: bool) -> Result<(), DiskFail> {
+    if is_met {
+        Ok(())
+    } else {
+        Err(DiskFail::Failed)
+    }
+}
+
+impl<S: FolderCalls + Drop> Model for Folder<S> {
+    ghost use Rattle.base_outside.specs.Folder.{FolderNote, IsNoted};
+
+    ghost Value = { FolderNote };
+
+    ghost view = { λ f. record { names = S.names f.system; is_stopped = f.is_stopped } };
+
+    ghost invariant = { λ f. IsNoted f.are_stored (S.names f.system) };
+}
+
+impl<S: FolderCalls + Drop> Folder<S> {
+    pub fn new(alloc: Global, system: S, folder: &str) -> Result<Folder<S>, AllocError>
+        ensures { IfOk result (λ f. f.is_stopped ≡ false) }
+    {
         Ok(Folder {
-            rt,
-            path,
-            are_names_synced: false,
+            alloc,
+            system,
+            path: PathBuffer::new(alloc, folder)?,
+            other: PathBuffer::new(alloc, folder)?,
             written: None,
-            locked: None,
+            are_stored: false,
+            is_stopped: false,
         })
     }
 
-    /// Takes the exclusive lock on the folder itself, for as long as this value lives. Answers
-    /// whether no other has it.
-    pub fn lock(&mut self) -> io::Result<bool>
-    where
-        R::File: LockFile,
+    /// The folder's sync failed after a name changed: a read and a crash may not agree any more, so
+    /// that nothing may be answered.
+    pub fn is_stopped(&self) -> bool
+        ensures { result ≡ self.now.is_stopped }
     {
-        let folder = self.open("")?;
-        match folder.try_lock() {
-            Ok(()) => {
-                self.locked = Some(folder);
-                Ok(true)
-            }
-            Err(TryLockError::WouldBlock) => Ok(false),
-            Err(TryLockError::Error(error)) => Err(error),
+        self.is_stopped
+    }
+
+    /// What stands under a name; nothing under one that is longer than the system takes.
+    fn find(&mut self, name: &str) -> Result<Found, DiskFail>
+        ensures { self.new ≡ self.old }
+    {
+        if !self.path.set(name) {
+            return Ok(Found::Absent);
         }
-    }
-
-    fn path_of(&self, name: &str) -> Result<PathBuf, AllocError> {
-        Path::new(self.path.as_str()).join(self.rt.alloc(), name)
-    }
-
-    /// Opens a file or a folder for reading.
-    fn open(&self, name: &str) -> io::Result<R::File> {
-        let path = self.path_of(name)?;
-        File::open(&self.rt, path.as_path())
-    }
-
-    /// What the system tells of a file or a folder.
-    fn metadata(&self, name: &str) -> io::Result<Metadata> {
-        let path = self.path_of(name)?;
-        fs::metadata(&self.rt, path.as_path())
+        self.system.find(self.path.as_str())
     }
 
     /// The file's length; `None` where no file has that name.
-    pub fn length(&self, name: &str) -> io::Result<Option<u64>> {
-        match self.metadata(name) {
-            Ok(found) if found.is_file() => Ok(Some(found.len())),
-            Ok(_) => Ok(None),
-            Err(error) if is_absence(&error) => Ok(None),
-            Err(error) => Err(error),
-        }
-    }
-
-    /// There is a file of that name.
-    fn expect_file(&self, name: &str) -> io::Result<()> {
-        match self.length(name)? {
-            Some(_) => Ok(()),
-            None => Err(io::Error::from(ErrorKind::NotFound)),
-        }
-    }
-
-    /// The file has as many bytes; an absent one has none. Answers its length, where it is there.
-    fn expect_length(&self, name: &str, least: u64) -> io::Result<Option<u64>> {
-        match self.length(name)? {
-            Some(length) if least <= length => Ok(Some(length)),
-            None if least == 0 => Ok(None),
-            _ => Err(io::Error::from(ErrorKind::InvalidInput)),
-        }
-    }
-
-    pub fn read(&self, name: &str, at: u64, into: &mut [u8]) -> io::Result<usize>
-        ensures { IfOk result (λ n. n ≤ length into.new) }
+    pub fn length(&mut self, name: &str) -> Result<Option<u64>, DiskFail>
+        ensures { self.new ≡ self.old }
     {
-        if self.length(name)?.is_none() {
-            return Ok(0);
+        Ok(length_of(self.find(name)?))
+    }
+
+    /// Reads from an open file until `into` is full or the file ends, and answers how many bytes.
+    fn fill(&mut self, file: &S::Open, at: u64, into: &mut [u8]) -> Result<usize, DiskFail>
+        ensures length { IfOk result (λ n. n ≤ length into.new) }
+        ensures memory { IsErrOf result OutOfMemory → ⊥ }
+        ensures same { self.new ≡ self.old }
+    {
+        let mut count = 0;
+        while count < into.len() {
+            let (_, rest) = into.split_at_mut(count);
+            let read = self
+                .system
+                .read(file, at.saturating_add(count as u64), rest)?;
+            if read == 0 {
+                return Ok(count);
+            }
+            count += read;
         }
-        let mut file = self.open(name)?;
-        file.seek(SeekFrom::Start(at))?;
-        fill(&mut file, into)
+        Ok(count)
+    }
+
+    /// The bytes from the offset `at` on, as many as fit. Takes no memory.
+    pub fn read(&mut self, name: &str, at: u64, into: &mut [u8]) -> Result<usize, DiskFail>
+        ensures length { IfOk result (λ n. n ≤ length into.new) }
+        ensures memory { IsErrOf result OutOfMemory → ⊥ }
+        ensures same { self.new ≡ self.old }
+    {
+        match self.find(name) {
+            Ok(Found::File(_)) => {
+                let file = self.system.open_to_read(self.path.as_str())?;
+                self.fill(&file, at, into)
+            }
+            Ok(_) => Ok(0),
+            Err(_) => Err(DiskFail::Failed),
+        }
+    }
+
+    /// Makes the subfolder, where the name lies in it.
+    fn make_subfolder(&mut self, name: &str) -> Result<(), DiskFail>
+        ensures moves { self.new.names.moves ≡ self.old.names.moves }
+        ensures stopped { self.new.is_stopped ≡ self.old.is_stopped }
+    {
+        if !is_below(name) {
+            return Ok(());
+        }
+        expect(self.path.set(SUBFOLDER))?;
+        if self.system.make_folder(self.path.as_str())? {
+            self.are_stored = false;
+        }
+        Ok(())
     }
 
     /// Opens a file that has at least so many bytes for writing, and makes it where it is absent
     /// and none are wanted.
-    fn open_to_write(&mut self, name: &str, least: u64) -> io::Result<WrittenFile<R::File>> {
-        let length = self.expect_length(name, least)?;
-        if length.is_none() {
-            self.are_names_synced = false;
-        }
+    fn open_to_write(&mut self, name: &str, least: u64) -> Result<(), DiskFail>
+        ensures moves { self.new.names.moves ≡ self.old.names.moves }
+        ensures stopped { self.new.is_stopped ≡ self.old.is_stopped }
+    {
+        self.written = None;
+        let length = self.length(name)?;
+        expect(least <= length.unwrap_or(0))?;
         self.make_subfolder(name)?;
-        let path = self.path_of(name)?;
-        let file = OpenOptions::new()
-            .write(true)
-            .create(true)
-            .open(&self.rt, path.as_path())?;
-        let name = String::from_str(self.rt.alloc(), name)?;
-        Ok(WrittenFile::new(name, file, length.unwrap_or(0)))
+        expect(self.path.set(name))?;
+        let name = String::from_str(self.alloc, name)?;
+        if length.is_none() {
+            self.are_stored = false;
+        }
+        let open = self.system.open(self.path.as_str(), length.is_none())?;
+        self.written = Some(WrittenFile {
+            name,
+            open,
+            length: length.unwrap_or(0),
+        });
+        Ok(())
     }
 
-    pub fn write_at(&mut self, name: &str, at: u64, bytes: &[u8]) -> io::Result<()> {
-        let wrote = match &mut self.written {
-            Some(file) if file.has_name(name) => file.write_at(at, bytes),
-            _ => return self.write_opened(name, at, bytes),
+    /// Writes to the file that is open.
+    fn write_open(&mut self, at: u64, bytes: &[u8]) -> Result<(), DiskFail>
+        ensures { self.new ≡ self.old }
+    {
+        let Some(file) = &mut self.written else {
+            return Err(DiskFail::Failed);
         };
+        expect(at <= file.length)?;
+        self.system.write(&file.open, at, bytes)?;
+        file.length = file.length.max(at.saturating_add(bytes.len() as u64));
+        Ok(())
+    }
+
+    /// Writes at a place that isn't past the file's end, and makes the file where it is absent.
+    pub fn write_at(&mut self, name: &str, at: u64, bytes: &[u8]) -> Result<(), DiskFail>
+        ensures moves { self.new.names.moves ≡ self.old.names.moves }
+        ensures stopped { self.new.is_stopped ≡ self.old.is_stopped }
+    {
+        if !has_name(&self.written, name) {
+            self.open_to_write(name, at)?;
+        }
+        let wrote = self.write_open(at, bytes);
         if wrote.is_err() {
             self.written = None;
         }
         wrote
     }
 
-    /// Opens the file, writes to it, and keeps it open.
-    fn write_opened(&mut self, name: &str, at: u64, bytes: &[u8]) -> io::Result<()> {
+    /// Cuts a file that has as many bytes.
+    pub fn cut(&mut self, name: &str, to: u64) -> Result<(), DiskFail>
+        ensures { self.new ≡ self.old }
+    {
         self.written = None;
-        let mut file = self.open_to_write(name, at)?;
-        file.write_at(at, bytes)?;
-        self.written = Some(file);
+        match self.find(name)? {
+            Found::File(length) => expect(to <= length)?,
+            _ => return Err(DiskFail::Failed),
+        }
+        let file = self.system.open(self.path.as_str(), false)?;
+        self.system.cut(&file, to)
+    }
+
+    /// Syncs a file that isn't open.
+    fn sync_closed(&mut self, name: &str) -> Result<(), DiskFail>
+        ensures { self.new ≡ self.old }
+    {
+        expect(self.length(name)?.is_some())?;
+        let file = self.system.open_to_read(self.path.as_str())?;
+        self.system.sync(&file)
+    }
+
+    /// Syncs a file's bytes, through the descriptor that wrote them where it is open.
+    fn sync_bytes(&mut self, name: &str) -> Result<(), DiskFail>
+        ensures { self.new ≡ self.old }
+    {
+        match &self.written {
+            Some(file) if file.name.as_str() == name => self.system.sync(&file.open),
+            _ => self.sync_closed(name),
+        }
+    }
+
+    /// Syncs the folder, and the subfolder where it is there too.
+    fn sync_names(&mut self) -> Result<(), DiskFail>
+        ensures stored { OnOk result (AreStored self.new.names) }
+        ensures moves { self.new.names.moves ≡ self.old.names.moves }
+        ensures stopped { self.new.is_stopped ≡ self.old.is_stopped }
+    {
+        expect(self.other.set(SUBFOLDER) && self.path.set(""))?;
+        let has_subfolder = self.system.find(self.other.as_str())? == Found::Folder;
+        self.are_stored = false;
+        self.system
+            .sync_folders(self.path.as_str(), self.other.as_str(), has_subfolder)?;
+        self.are_stored = true;
         Ok(())
     }
 
-    pub fn cut(&mut self, name: &str, to: u64) -> io::Result<()> {
-        self.written = None;
-        let _there = self.expect_length(name, to)?;
-        let path = self.path_of(name)?;
-        let file = OpenOptions::new()
-            .write(true)
-            .open(&self.rt, path.as_path())?;
-        file.set_len(to)
-    }
-
     /// Syncs the file, and the folders where a name changed since they were synced.
-    pub fn sync(&mut self, name: &str) -> io::Result<()> {
-        let synced = match &self.written {
-            Some(file) if file.has_name(name) => file.sync(),
-            _ => self.sync_closed(name),
-        };
+    pub fn sync(&mut self, name: &str) -> Result<(), DiskFail>
+        ensures stored { OnOk result (AreStored self.new.names) }
+        ensures moves { self.new.names.moves ≡ self.old.names.moves }
+        ensures stopped { self.new.is_stopped ≡ self.old.is_stopped }
+    {
+        let synced = self.sync_bytes(name);
         if synced.is_err() {
             self.written = None;
             return synced;
         }
-        if self.are_names_synced {
-            return synced;
+        if self.are_stored {
+            return Ok(());
         }
         self.sync_names()
     }
 
-    /// Syncs a file that isn't kept open.
-    fn sync_closed(&self, name: &str) -> io::Result<()> {
-        self.expect_file(name)?;
-        let file = self.open(name)?;
-        file.sync_data()
+    /// Syncs the folders after a file was renamed or removed. Where that fails, no call is done any
+    /// more.
+    fn settle(&mut self) -> Result<(), DiskFail>
+        ensures { IsSettled self.old.names self.new.names self.new.is_stopped }
+    {
+        let synced = self.sync_names();
+        if synced.is_err() {
+            self.is_stopped = true;
+        }
+        synced
     }
 
-    pub fn rename(&mut self, from: &str, to: &str) -> io::Result<()> {
+    /// Renames a file that is there.
+    pub fn rename(&mut self, from: &str, to: &str) -> Result<(), DiskFail>
+        ensures { IsSettled self.old.names self.new.names self.new.is_stopped }
+    {
         self.written = None;
-        self.expect_file(from)?;
+        expect(self.length(from)?.is_some())?;
         self.make_subfolder(to)?;
-        let (old, new) = (self.path_of(from)?, self.path_of(to)?);
-        self.are_names_synced = false;
-        fs::rename(&self.rt, old.as_path(), new.as_path())?;
-        self.sync_names()
+        expect(self.path.set(from) && self.other.set(to))?;
+        self.are_stored = false;
+        self.system.rename(self.path.as_str(), self.other.as_str())?;
+        self.settle()
     }
 
-    pub fn remove(&mut self, name: &str) -> io::Result<()> {
+    /// Removes a file that is there.
+    pub fn remove(&mut self, name: &str) -> Result<(), DiskFail>
+        ensures { IsSettled self.old.names self.new.names self.new.is_stopped }
+    {
         self.written = None;
-        let path = self.path_of(name)?;
-        self.are_names_synced = false;
-        fs::remove_file(&self.rt, path.as_path())?;
-        self.sync_names()
-    }
-
-    /// The names of all files, in byte order.
-    pub fn list(&self) -> io::Result<Vec<String>> {
-        let mut names = Vec::new(self.rt.alloc());
-        self.list_folder("", "", &mut names)?;
-        if self.has_subfolder()? {
-            self.list_folder(SUBFOLDER, IN_SUBFOLDER, &mut names)?;
-        }
-        names.sort()?;
-        Ok(names)
-    }
-
-    /// Appends the names of the files in a folder, each after `front`.
-    fn list_folder(&self, folder: &str, front: &str, names: &mut Vec<String>) -> io::Result<()> {
-        for entry in self.entries(folder)? {
-            self.list_entry(front, entry, names)?;
-        }
-        Ok(())
-    }
-
-    /// What the system lists of a folder.
-    fn entries(&self, folder: &str) -> io::Result<ReadDir<R>> {
-        let path = self.path_of(folder)?;
-        fs::read_dir(&self.rt, path.as_path())
-    }
-
-    /// Appends the name of an entry. One that isn't UTF-8 is left out.
-    fn list_entry(
-        &self,
-        front: &str,
-        entry: io::Result<DirEntry<R>>,
-        names: &mut Vec<String>,
-    ) -> io::Result<()> {
-        match entry {
-            Ok(entry) => self.list_file(front, entry.file_name(), names),
-            Err(error) if error.kind() == ErrorKind::InvalidFilename => Ok(()),
-            Err(error) => Err(error),
-        }
+        expect(self.path.set(name))?;
+        self.are_stored = false;
+        self.system.remove(self.path.as_str())?;
+        self.settle()
     }
 
     /// Whether the name is to be listed: it is that of a file, or the system doesn't tell, as of a
     /// link into a folder that may not be looked into. What is done with such a file then fails,
     /// and a node leaves it alone where it isn't its own.
-    fn is_listed(&self, name: &str) -> io::Result<bool> {
+    fn is_listed(&mut self, name: &str) -> Result<bool, DiskFail>
+        ensures { self.new ≡ self.old }
+    {
         match self.length(name) {
             Ok(length) => Ok(length.is_some()),
-            Err(error) if error.kind() == ErrorKind::OutOfMemory => Err(error),
-            Err(_) => Ok(true),
+            Err(DiskFail::OutOfMemory) => Err(DiskFail::OutOfMemory),
+            Err(DiskFail::Failed) => Ok(true),
         }
     }
 
-    /// Appends a name where it is to be listed.
-    fn list_file(&self, front: &str, name: &str, names: &mut Vec<String>) -> io::Result<()> {
-        let mut whole = String::from_str(self.rt.alloc(), front)?;
+    /// Appends a name of a folder, after `front`, where it is to be listed.
+    fn list_name(
+        &mut self,
+        front: &str,
+        name: &str,
+        names: &mut Vec<String>,
+    ) -> Result<(), DiskFail>
+        ensures { self.new ≡ self.old }
+    {
+        let mut whole = String::from_str(self.alloc, front)?;
         whole.push_str(name)?;
         if self.is_listed(whole.as_str())? {
             names.push(whole)?;
@@ -296,44 +352,50 @@ where
         Ok(())
     }
 
-    /// The subfolder is there. A file of its name is none.
-    fn has_subfolder(&self) -> io::Result<bool> {
-        match self.metadata(SUBFOLDER) {
-            Ok(found) => Ok(found.is_dir()),
-            Err(error) if is_absence(&error) => Ok(false),
-            Err(error) => Err(error),
+    /// Appends the names of the files in a folder, each after `front`.
+    fn list_folder(
+        &mut self,
+        folder: &str,
+        front: &str,
+        names: &mut Vec<String>,
+    ) -> Result<(), DiskFail>
+        ensures { self.new ≡ self.old }
+    {
+        expect(self.path.set(folder))?;
+        let entries = self.system.list(self.path.as_str())?;
+        for name in &entries {
+            self.list_name(front, name.as_str(), names)?;
         }
-    }
-
-    /// Makes the subfolder, where the name lies in it.
-    fn make_subfolder(&self, name: &str) -> io::Result<()> {
-        if !is_below(name) {
-            return Ok(());
-        }
-        let path = self.path_of(SUBFOLDER)?;
-        match fs::create_dir(&self.rt, path.as_path()) {
-            Err(error) if error.kind() == ErrorKind::AlreadyExists => Ok(()),
-            made => made,
-        }
-    }
-
-    /// Syncs the folders, since a name changed.
-    fn sync_names(&mut self) -> io::Result<()> {
-        self.sync_folders()?;
-        self.are_names_synced = true;
         Ok(())
     }
 
-    /// Syncs the folder, and the subfolder where it is there too.
-    fn sync_folders(&self) -> io::Result<()> {
-        if self.has_subfolder()? {
-            self.sync_folder(SUBFOLDER)?;
+    /// The names of all files, in byte order.
+    pub fn list(&mut self) -> Result<Vec<String>, DiskFail>
+        ensures { self.new ≡ self.old }
+    {
+        let mut names = Vec::new(self.alloc);
+        self.list_folder("", "", &mut names)?;
+        if self.find(SUBFOLDER)? == Found::Folder {
+            self.list_folder(SUBFOLDER, IN_SUBFOLDER, &mut names)?;
         }
-        self.sync_folder("")
+        names.sort()?;
+        Ok(names)
     }
+}
 
-    fn sync_folder(&self, name: &str) -> io::Result<()> {
-        let file = self.open(name)?;
-        file.sync_all()
+impl<S: LockFolder + Drop> Folder<S> {
+    /// Takes the exclusive lock on the folder itself, for as long as this value lives, and then
+    /// syncs the folders, so that no crash undoes a name that is read from now on. Answers whether
+    /// no other has the lock.
+    pub fn lock(&mut self) -> Result<bool, DiskFail>
+        ensures stored { IfOk result (λ taken. taken ≡ true → AreStored self.new.names) }
+        ensures stopped { self.new.is_stopped ≡ self.old.is_stopped }
+    {
+        expect(self.path.set(""))?;
+        if !self.system.lock(self.path.as_str())? {
+            return Ok(false);
+        }
+        self.sync_names()?;
+        Ok(true)
     }
 }

@@ -1,22 +1,21 @@
 //! A disk over a folder of the system.
-ghost use Rattle.std.specs.Prelude.{◌≡◌, None, IfOk, IsErrOf, Ok};
+ghost use Rattle.std.specs.Prelude.{◌≡◌, IfOk, IsErrOf, OnErr, OnOk, false, true};
 ghost use Rattle.base_disk.specs.Calls.{HasCause, HasShortage, Rose};
 ghost use Rattle.base_outside.specs.Faults.{counted};
 
 use crate::OutOfMemory;
 use crate::folder::Folder;
+use crate::host_folder::HostFolder;
 use crate::lock_file::LockFile;
 use base_disk::{Disk, DiskFail, DiskModel};
 use std::fs::Files;
-use std::io;
-use std::io::ErrorKind;
 use std::marker::Model;
 use std::os::unix::fs::FileExt;
 
 /// The files of a folder and of its subfolder `paxos`, as `paxos/NAME`. The subfolder is made where
 /// a name in it is written or renamed to. It tells nothing of what the files hold, since other
-/// programs may change them: contracts see its counts of faults, of wants of memory and of reads
-/// alone.
+/// programs may change them: contracts see its counts of faults, of wants of memory and of reads,
+/// and whether it is stopped.
 ///
 /// A name under which no file stands, be it nothing, a folder or too long for a file, is absent: it
 /// has no length and no bytes. A name that begins with `/` is one of the whole system. Names that
@@ -24,22 +23,29 @@ use std::os::unix::fs::FileExt;
 /// last: it stays open until another is written, a name changes or a call of it fails, so that a
 /// sync goes through the descriptor that wrote. The folder itself can be locked. A sync syncs the
 /// file, and the folders too where a name changed since they were synced; a rename or a removal
-/// syncs the folders, and answers Failed where it can't: then it has happened, and a crash may undo
-/// it. What a device loses although it told that it had stored it, isn't seen.
+/// syncs the folders. Where it can't, it fails although it has happened, and a crash may undo it:
+/// from then on each call answers Failed, so that nothing rests on it. What a device loses although
+/// it told that it had stored it, isn't seen.
 #[derive(Drop)]
-pub struct FolderDisk<R: Files + Drop> {
-    folder: Folder<R>,
+pub struct FolderDisk<R: Files + AllocGlobal + Clone + Drop>
+where
+    R::File: FileExt,
+{
+    folder: Folder<HostFolder<R>>,
     faults: u64,
     shortages: u64,
     reads: u64,
 }
 
-impl<R: Files + Drop> Model for FolderDisk<R> {
+impl<R: Files + AllocGlobal + Clone + Drop> Model for FolderDisk<R>
+where
+    R::File: FileExt,
+{
     ghost use Rattle.base_outside.specs.Folder.{FolderView};
 
     ghost Value = { FolderView };
 
-    ghost view = { λ d. record { faults = d.faults; shortages = d.shortages; reads = d.reads } };
+    ghost view = { λ d. record { faults = d.faults; shortages = d.shortages; reads = d.reads; is_stopped = d.folder.is_stopped } };
 }
 
 impl<R: Files + AllocGlobal + Clone + Drop> FolderDisk<R>
@@ -49,10 +55,13 @@ where
     /// The files of this folder, which may be absent: then nothing is read, and each call that
     /// writes fails.
     pub fn new(rt: R, folder: &str) -> Result<FolderDisk<R>, OutOfMemory>
-        ensures { IfOk result (λ d. (d.faults ≡ 0) × (d.reads ≡ 0)) }
+        ensures counts { IfOk result (λ d. (d.faults ≡ 0) × (d.reads ≡ 0)) }
+        ensures runs { IfOk result (λ d. d.is_stopped ≡ false) }
     {
+        let alloc = rt.alloc();
+        let system = HostFolder { rt, locked: None };
         Ok(FolderDisk {
-            folder: Folder::new(rt, folder)?,
+            folder: Folder::new(alloc, system, folder)?,
             faults: 0,
             shortages: 0,
             reads: 0,
@@ -65,9 +74,10 @@ where
 pub enum LockFail {
     /// Another has the lock.
     Taken,
-    /// The folder can't be opened, or can't be locked where it lies. The disk counted it.
+    /// The folder can't be opened, or can't be locked where it lies, or its names can't be synced.
+    /// The disk counted it.
     Failed,
-    /// There wasn't memory for the folder's name.
+    /// The system had no memory for it.
     OutOfMemory,
 }
 
@@ -76,18 +86,21 @@ where
     R::File: LockFile + FileExt,
 {
     /// Takes the exclusive lock on the folder itself, so that no other takes it while this value
-    /// lives. It goes with its process, however that ends, and no file stands for it. A program
-    /// that doesn't ask for the lock isn't held up by it.
+    /// lives, and then syncs the folder and its subfolder: what a rename or a removal left that no
+    /// sync followed, as one of a process that was ended, no crash undoes any more once a name is
+    /// read. The lock goes with its process, however that ends, and no file stands for it. A
+    /// program that doesn't ask for the lock isn't held up by it.
     pub fn lock(&mut self) -> Result<(), LockFail>
         ensures failed { IsErrOf result LockFail.Failed → self.new.faults ≡ counted self.old.faults }
         ensures others { (IsErrOf result LockFail.Failed → ⊥) → self.new.faults ≡ self.old.faults }
         ensures unread { self.new.reads ≡ self.old.reads }
+        ensures runs { self.new.is_stopped ≡ self.old.is_stopped }
     {
         match self.folder.lock() {
             Ok(true) => Ok(()),
             Ok(false) => Err(LockFail::Taken),
-            Err(error) if error.kind() == ErrorKind::OutOfMemory => Err(LockFail::OutOfMemory),
-            Err(_) => {
+            Err(DiskFail::OutOfMemory) => Err(LockFail::OutOfMemory),
+            Err(DiskFail::Failed) => {
                 self.faults = self.faults.saturating_add(1);
                 Err(LockFail::Failed)
             }
@@ -95,32 +108,45 @@ where
     }
 }
 
-/// What a call answers; a fault is counted, and so is a lack of memory.
-fn count_fault<T: Drop>(
-    faults: &mut u64,
-    shortages: &mut u64,
-    answer: io::Result<T>,
-) -> Result<T, DiskFail>
-    ensures value { IfOk result (λ v. answer ≡ Ok v) }
+/// Refuses a call of a disk that is stopped, and counts it.
+fn admit(is_stopped: bool, faults: &mut u64) -> Result<(), DiskFail>
     ensures cause { HasCause faults.old faults.new ⊥ ⊥ result }
-    ensures shortage { HasShortage shortages.old shortages.new result }
+    ensures refused { OnErr result (IsErrOf result DiskFail.Failed) }
+    ensures goes { OnOk result (is_stopped ≡ false) }
+    ensures stops { OnErr result (is_stopped ≡ true) }
 {
-    match answer {
-        Ok(value) => Ok(value),
-        Err(error) if error.kind() == ErrorKind::OutOfMemory => {
-            *shortages = shortages.saturating_add(1);
-            Err(DiskFail::OutOfMemory)
-        }
-        Err(_) => {
-            *faults = faults.saturating_add(1);
-            Err(DiskFail::Failed)
-        }
+    if is_stopped {
+        *faults = faults.saturating_add(1);
+        return Err(DiskFail::Failed);
     }
+    Ok(())
 }
 
-impl<R: Files + Drop> DiskModel for FolderDisk<R> {
+/// What a call answers; a fault is counted, and so is a lack of memory.
+fn count_fail<T: Drop>(
+    faults: &mut u64,
+    shortages: &mut u64,
+    answer: Result<T, DiskFail>,
+) -> Result<T, DiskFail>
+    ensures same { result ≡ answer }
+    ensures cause { HasCause faults.old faults.new ⊥ ⊥ result }
+    ensures shortage { HasShortage shortages.old shortages.new result }
+    ensures enough { (IsErrOf result DiskFail.OutOfMemory → ⊥) → shortages.new ≡ shortages.old }
+{
+    match &answer {
+        Ok(_) => {}
+        Err(DiskFail::OutOfMemory) => *shortages = shortages.saturating_add(1),
+        Err(DiskFail::Failed) => *faults = faults.saturating_add(1),
+    }
+    answer
+}
+
+impl<R: Files + AllocGlobal + Clone + Drop> DiskModel for FolderDisk<R>
+where
+    R::File: FileExt,
+{
     ghost use Rattle.std.specs.Prelude.{None, false};
-    ghost use Rattle.base_outside.specs.Folder.{untold};
+    ghost use Rattle.base_outside.specs.Folder.{untold, left_of};
 
     ghost tells = { λ _. ⊥ };
 
@@ -136,7 +162,7 @@ impl<R: Files + Drop> DiskModel for FolderDisk<R> {
 
     ghost steady = { λ _. ⊥ };
 
-    ghost left = { λ _. None };
+    ghost left = { left_of };
 }
 
 impl<R: Files + AllocGlobal + Clone + Drop> Disk for FolderDisk<R>
@@ -150,63 +176,51 @@ where
     ghost told_so = { λ _. (λ t. t, λ t. t) };
 
     fn length(&mut self, name: &str) -> Result<Option<u64>, DiskFail> {
-        count_fault(
-            &mut self.faults,
-            &mut self.shortages,
-            self.folder.length(name),
-        )
+        admit(self.folder.is_stopped(), &mut self.faults)?;
+        let answer = self.folder.length(name);
+        count_fail(&mut self.faults, &mut self.shortages, answer)
     }
 
     fn read(&mut self, name: &str, at: u64, into: &mut [u8]) -> Result<usize, DiskFail> {
         self.reads = self.reads.saturating_add(1);
-        count_fault(
-            &mut self.faults,
-            &mut self.shortages,
-            self.folder.read(name, at, into),
-        )
+        admit(self.folder.is_stopped(), &mut self.faults)?;
+        let answer = self.folder.read(name, at, into);
+        count_fail(&mut self.faults, &mut self.shortages, answer)
     }
 
     fn list(&mut self) -> Result<Vec<String>, DiskFail> {
-        count_fault(&mut self.faults, &mut self.shortages, self.folder.list())
+        admit(self.folder.is_stopped(), &mut self.faults)?;
+        let answer = self.folder.list();
+        count_fail(&mut self.faults, &mut self.shortages, answer)
     }
 
     fn write_at(&mut self, name: &str, at: u64, bytes: &[u8]) -> Result<(), DiskFail> {
-        count_fault(
-            &mut self.faults,
-            &mut self.shortages,
-            self.folder.write_at(name, at, bytes),
-        )
+        admit(self.folder.is_stopped(), &mut self.faults)?;
+        let answer = self.folder.write_at(name, at, bytes);
+        count_fail(&mut self.faults, &mut self.shortages, answer)
     }
 
     fn cut(&mut self, name: &str, to: u64) -> Result<(), DiskFail> {
-        count_fault(
-            &mut self.faults,
-            &mut self.shortages,
-            self.folder.cut(name, to),
-        )
+        admit(self.folder.is_stopped(), &mut self.faults)?;
+        let answer = self.folder.cut(name, to);
+        count_fail(&mut self.faults, &mut self.shortages, answer)
     }
 
     fn sync(&mut self, name: &str) -> Result<(), DiskFail> {
-        count_fault(
-            &mut self.faults,
-            &mut self.shortages,
-            self.folder.sync(name),
-        )
+        admit(self.folder.is_stopped(), &mut self.faults)?;
+        let answer = self.folder.sync(name);
+        count_fail(&mut self.faults, &mut self.shortages, answer)
     }
 
     fn rename(&mut self, from: &str, to: &str) -> Result<(), DiskFail> {
-        count_fault(
-            &mut self.faults,
-            &mut self.shortages,
-            self.folder.rename(from, to),
-        )
+        admit(self.folder.is_stopped(), &mut self.faults)?;
+        let answer = self.folder.rename(from, to);
+        count_fail(&mut self.faults, &mut self.shortages, answer)
     }
 
     fn remove(&mut self, name: &str) -> Result<(), DiskFail> {
-        count_fault(
-            &mut self.faults,
-            &mut self.shortages,
-            self.folder.remove(name),
-        )
+        admit(self.folder.is_stopped(), &mut self.faults)?;
+        let answer = self.folder.remove(name);
+        count_fail(&mut self.faults, &mut self.shortages, answer)
     }
 }
