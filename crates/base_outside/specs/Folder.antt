@@ -32,7 +32,7 @@ pub record Names : Type 0 where
   -- how many of the changes no crash undoes
   pub stored : ℕ
 
-pub no_names : Names
+abbrev pub no_names : Names
 no_names = record { changes = 0; moves = 0; stored = 0 }
 
 -- what contracts see of the calls over it
@@ -48,6 +48,10 @@ AreStored n = n.stored ≡ n.changes
 abbrev pub IsNoted : Bool → Names → Type 0
 IsNoted are_stored n = are_stored ≡ true → AreStored n
 
--- Each file that was renamed or removed stays so at every crash, or no call is done any more.
+-- no crash undoes a change, or no call is done any more
+abbrev pub IsLasting : Names → Bool → Type 0
+IsLasting n is_stopped = AreStored n ⊎ (is_stopped ≡ true)
+
+-- Where a file was renamed or removed, that lasts.
 abbrev pub IsSettled : Names → Names → Bool → Type 0
-IsSettled old new is_stopped = (new.moves ≡ old.moves) ⊎ AreStored new ⊎ (is_stopped ≡ true)
+IsSettled old new is_stopped = (new.moves ≡ old.moves) ⊎ IsLasting new is_stopped

