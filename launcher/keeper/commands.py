@@ -85,7 +85,10 @@ class Commands:
         """Has another machine do a command. One that was handed on already isn't once more."""
         if asked.get('handed_on'):
             return refusal(NOT_GIVEN, 'no lead is active here: it moved meanwhile; give it again')
-        told = await self.machine.peers[host].ask({**asked, 'handed_on': True, 'timeout': seconds}, seconds + 2)
+        peer = self.machine.peers[host]
+        if peer.state != 'connected':
+            return refusal(NOT_GIVEN, f'there is no way to the machine {host}: {peer.state} {peer.why}'.rstrip())
+        told = await peer.ask({**asked, 'handed_on': True, 'timeout': seconds}, seconds + 2)
         told.pop('id', None)
         return told
 

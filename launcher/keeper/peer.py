@@ -112,7 +112,7 @@ class Peer:
     async def ask(self, asked: Reply, seconds: float) -> Reply:
         """Has the keeper there do a command, for so many seconds at most."""
         if not self.outlet:
-            return refusal(NOT_GIVEN, f'there is no way to the machine {self.name}: {self.why}')
+            return refusal(NOT_GIVEN, f'there is no way to the machine {self.name}')
         self.count += 1
         number = self.count
         self.asked[number] = asyncio.get_running_loop().create_future()
