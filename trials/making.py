@@ -562,11 +562,11 @@ def images(r):
     digest = digest_file(data, name) if r.random() < .3 else None
     data = damaged(r, data)
     files = {name: data, f'{name}.md5': damaged(r, digest or digest_file(data, name))}
-    listed = [(['oiv', way, name], b'') for way in ('delimited', 'sizes', 'json')] + [(['oiv', 'ls', name, some_path(r, data)], b'') for _ in range(3)]
+    listed = [(['oiv', way, name], b'') for way in ('delimited', 'sizes', 'json')] + [(['oiv', 'ls', name, path_in(r, data)], b'') for _ in range(3)]
     return Case(listed + [(['fsck'], b'')], files)
 
 
-def some_path(r, data):
+def path_in(r, data):
     """A path that an image may have, or nearly."""
     paths = re.findall(rb'/[!-:<-~]*', data)
     path = r.choice([b'/'] + paths)
