@@ -58,8 +58,8 @@ function is_quiet_call(request, heard) {
 function draw_fold(first, last,    i, lines_of) {
   count_folded(first, last)
   lines_of = "report lines " folded_from " to " folded_until " of the records"
-  draw("<g>" fitting("l1", 16, y + 15, "… quiet: " count(last - first + 1, "round"), 240) \
-    fitting("l2", 16, y + 29, lines_of, 240) "<title>" escape(lines_of "\nevery call was answered and heard; ./qjm draw --whole draws each") "</title></g>")
+  draw(mark_of("", fitting("l1", 16, y + 15, "… quiet: " count(last - first + 1, "round"), 240) fitting("l2", 16, y + 29, lines_of, 240), \
+    lines_of "\nevery call was answered and heard; ./qjm draw --whole draws each"))
   for (i = 1; i <= nodes; i++) draw(text_at("lo", lane_center(i), y + 22, "…"))
   piece_count = 0
   if (folded["acked"]) piece("ra", "✓ " count(folded["acked"], "edit") " acked, " range(folded_first, folded_last))

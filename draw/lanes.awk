@@ -15,11 +15,11 @@ function draw_history(i, x,    k) {
 
 function draw_history_line(at, i, x, top,    view) {
   split(line_view[at], view, "|")
-  draw("<g class='" (view[1] == "ok" ? epoch_class(view[2]) : "k" view[1]) "'>" \
+  draw(mark_of(view[1] == "ok" ? epoch_class(view[2]) : "k" view[1], \
     fitting("lo", x, top + 11, line_caller[at] " " request_words(line_request[at]), lane_width - 8) \
     "<rect class='pl' x='" (x - lane_width / 2 + 7) "' y='" (top + 14) "' width='" (lane_width - 14) "' height='18' rx='9'/>" \
-    fitting("pt", x, top + 27, view[3], lane_width - 22) "<title>" \
-    escape(line_caller[at] " " line_request[at] "\n" line_reply[at] "\nreport line " line_number[at]) "</title></g>")
+    fitting("pt", x, top + 27, view[3], lane_width - 22), \
+    line_caller[at] " " line_request[at] "\n" line_reply[at] "\nreport line " line_number[at]))
   if (top > lowest) lowest = top
 }
 
@@ -38,7 +38,7 @@ function draw_event(at, x, top,    class, text, tip) {
     text = "= " event_request[at]
     tip = event_request[at]
   }
-  draw("<g>" fitting(class, x, top, text, 236) "<title>" escape(tip "\nreport line " event_number[at]) "</title></g>")
+  draw(mark_of("", fitting(class, x, top, text, 236), tip "\nreport line " event_number[at]))
   if (top > lowest) lowest = top
 }
 

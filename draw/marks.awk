@@ -14,9 +14,10 @@ function call_tip(a, e, i) {
 
 function draw_lost(a, e, i,    x) {
   x = lane_center(i)
-  draw("<g><path class='ar cutl' d='M" x " " (y + 9) "v7'/><path class='x' d='M" (x - 5) " " (y + 15) "l10 8m0 -8l-10 8'/>" \
-    text_at("lost", x, y + 35, "lost on the way") "<title>" \
-    escape(call_tip(a, e, i) "dropped: it never reached the node\nreport line " event_number[a, e]) "</title></g>")
+  draw(mark_of("", "<path class='ar cutl' d='M" x " " (y + 9) "v7'/><path class='x' d='M" (x - 5) " " (y + 15) "l10 8m0 -8l-10 8'/>" \
+    text_at("lost", x, y + 35, "lost on the way") \
+    "<rect class='hit' x='" (x - lane_width / 2 + 6) "' y='" (y + 9) "' width='" (lane_width - 12) "' height='28'/>", \
+    call_tip(a, e, i) "dropped: it never reached the node\nreport line " event_number[a, e]))
 }
 
 function draw_answer(r, i, a, e, at, rounds, is_best,    view, class, text, tip) {
@@ -32,11 +33,10 @@ function draw_answer(r, i, a, e, at, rounds, is_best,    view, class, text, tip)
   is_best = is_best && view[1] == "ok" && row_request[r] ~ /^prepare/
   if (rounds > 1 && view[1] == "ok") text = "✓ … " substr(text, length("✓ ") + 1)
   if (is_best) text = "★ " text
-  if (row_kind[r] == "o") draw("<g class='" class "'>" pill("", i, y + 4, text) "<title>" escape(tip) "</title></g>")
+  if (row_kind[r] == "o") draw(mark_of(class, pill("", i, y + 4, text), tip))
   else
-    draw(arrow(i, request_epoch(row_request[r])) "<g class='" class "'>" \
-      pill(event_heard[a, e] == "muted" ? " mu" : is_best ? " best" : "", i, y + 17, text) below(a, e, i) \
-      "<title>" escape(tip) "</title></g>")
+    draw(arrow(i, request_epoch(row_request[r])) \
+      mark_of(class, pill(event_heard[a, e] == "muted" ? " mu" : is_best ? " best" : "", i, y + 17, text) below(a, e, i), tip))
   if (view[1] == "kill") down(i, y + 22)
   if (view[1] == "stop") down(i, y + 35)
   if (view[1] == "rise") rise(i, y + 4)

@@ -19,6 +19,7 @@ END {
   page_width = results_left + results_width + 30
   if (page_width < 1040) page_width = 1040
   if (page_width < 11 * width(page_title) + 32) page_width = 11 * width(page_title) + 32
+  page_role = "role='graphics-document document' aria-labelledby='title'"
   if (format == "svg") print_svg()
   else print_html()
 }
@@ -121,33 +122,44 @@ function also(what, words) { if (total[what]) counted = counted ", " total[what]
 # ## The whole
 
 function print_html(    k) {
-  print "<!DOCTYPE html>\n<html lang='en'><head><meta charset='utf-8'><meta name='viewport' content='width=device-width'>"
-  print "<title>" page_title "</title>\n<style>"
-  print_style()
-  print "body{margin:0;background:var(--bg);color:var(--fg);font:13px system-ui,sans-serif;width:max-content;min-width:100%}"
-  print "h1{font-size:19px;margin:14px 16px 4px}p{margin:2px 16px 6px;color:var(--mu);max-width:1000px}p.w{color:var(--bad);font-weight:600}"
-  print "svg{display:block}.top{position:sticky;top:0;background:var(--bg);border-bottom:1px solid var(--ln);z-index:1}"
-  print "</style></head><body>"
-  print "<h1>" page_title "</h1>"
+  print_head()
+  print "<header><h1 id='title'>" page_title "</h1>"
   take_notes()
   for (k = 1; k <= note_count; k++) print "<p" (note_class[k] == "" ? "" : " class='" note_class[k] "'") ">" note[k] "</p>"
-  print "<div class='top'><svg xmlns='http://www.w3.org/2000/svg' width='" page_width "' height='34'>"
+  print "</header>\n<main>\n<div class='view' role='region' aria-labelledby='title'><div class='top' aria-hidden='true'>" \
+    "<svg xmlns='http://www.w3.org/2000/svg' width='" page_width "' height='34'>"
   print_names()
   print "</svg></div>"
-  print "<svg xmlns='http://www.w3.org/2000/svg' width='" page_width "' height='" y "'>"
+  print "<svg xmlns='http://www.w3.org/2000/svg' id='picture' width='" page_width "' height='" y "' " page_role ">"
   print_drawn()
-  print "</svg></body></html>"
+  print "</svg><div id='at' hidden></div></div>"
+  print "<div id='told' role='region' aria-label='The mark in whole' tabindex='0' hidden><p class='hint'>Point at a mark, tap it, or " \
+    "press Tab and then the arrow keys: what was asked and answered stands here in whole.</p></div>"
+  print "</main>\n<script>"
+  print_script()
+  print "</script></body></html>"
+}
+
+# The page loads nothing, and says so to the browser.
+function print_head() {
+  print "<!DOCTYPE html>\n<html lang='en'><head><meta charset='utf-8'><meta name='viewport' content='width=device-width,initial-scale=1'>"
+  print "<meta http-equiv='Content-Security-Policy' content=\"default-src 'none'; style-src 'unsafe-inline'; " \
+    "script-src 'unsafe-inline'; img-src data:\">"
+  print "<link rel='icon' href='data:,'><title>" page_title "</title>\n<style>"
+  print_style()
+  print_page_style()
+  print "</style></head><body>"
 }
 
 function print_svg(    k, top) {
   take_notes()
   break_notes(int((page_width - 32) / 6.8))
   top = 44 + 18 * note_count
-  print "<svg xmlns='http://www.w3.org/2000/svg' width='" page_width "' height='" (top + 40 + y) "'>\n<style>"
+  print "<svg xmlns='http://www.w3.org/2000/svg' width='" page_width "' height='" (top + 40 + y) "' " page_role ">\n<style>"
   print_style()
   print ".h{font-size:19px;font-weight:700}.n{fill:var(--mu);font-size:13px}.w{fill:var(--bad);font-size:13px;font-weight:600}"
   print "</style>\n<rect width='100%' height='100%' style='fill:var(--bg)'/>"
-  print text_at("h", 16, 28, page_title)
+  print "<text id='title' class='h' x='16' y='28'>" page_title "</text>"
   for (k = 1; k <= note_count; k++) print text_at(note_class[k] == "" ? "n" : "w", 16, 32 + 18 * k, note[k])
   print "<g transform='translate(0 " top ")'>"
   print_names()

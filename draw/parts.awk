@@ -14,6 +14,12 @@ function fitting(class, x, top, text, room,    each, wide) {
     (wide > room ? " textLength='" room "' lengthAdjust='spacingAndGlyphs'" : "") ">" escape(text) "</text>"
 }
 
+# A mark: shapes that are one thing to a reader, and in whole what they tell. To a screen reader it is an image of that name; the
+# page's script leads to it by touch and by keys.
+function mark_of(class, shapes, tip) {
+  return "<g" (class == "" ? "" : " class='" class "'") " role='img'>" shapes "<title>" escape(tip) "</title></g>"
+}
+
 function dot(class, x, top, radius) { return "<circle class='" class "' cx='" x "' cy='" top "' r='" radius "'/>" }
 
 function lane_center(i) { return lanes_left + (i - 0.5) * lane_width }

@@ -85,8 +85,8 @@ function draw_asked(r, last, rounds, a,    q) {
   q = row_request[r]
   if (row_kind[r] == "c") draw_round(r, last, rounds, a, q)
   else if (row_kind[r] == "l")
-    draw("<g>" fitting("l1", 16, y + 15, "late copy: " request_words(q), 240) \
-      fitting("l2", 16, y + 29, "an old call of " actor_name[a] " arrives again", 240) "<title>" escape(q) "</title></g>")
+    draw(mark_of("", fitting("l1", 16, y + 15, "late copy: " request_words(q), 240) \
+      fitting("l2", 16, y + 29, "an old call of " actor_name[a] " arrives again", 240), q))
   else if (row_kind[r] == "o") draw(fitting("op", 16, y + 17, operator_words(r), lanes_left - 20))
   else draw(text_at("l2", 16, y + 15, actor_name[a]))
 }
@@ -107,8 +107,8 @@ function draw_round(r, last, rounds, a, q,    what, hint, tip, left) {
     tip = "first: " q "\nlast: " row_request[last] "\nreport lines " event_number[a, row_first[r] - 1] \
       " to " event_number[a, row_last[last]]
   }
-  draw("<g class='" epoch_class(request_epoch(q)) "'>" fitting("l1", left, y + 15, what, 254 - left) \
-    fitting("l2", left, y + 29, hint, 254 - left) "<title>" escape(tip) "</title></g>")
+  draw(mark_of(epoch_class(request_epoch(q)), fitting("l1", left, y + 15, what, 254 - left) \
+    fitting("l2", left, y + 29, hint, 254 - left), tip))
 }
 
 function count_results(r, last,    found) {

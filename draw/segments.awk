@@ -51,7 +51,7 @@ function draw_bar(i, m, most,    wide, class, text) {
   class = is_final[i, m] ? "sf" : is_accepted[i, m] ? "sa" : "sp"
   text = range(m, segment_end(i, m)) (is_final[i, m] ? " final" : is_accepted[i, m] ? " accepted" : " in progress")
   if (segment_edits[i, m] == 0) text = "begun, empty"
-  draw("<g class='" epoch_class(segment_epoch[i, m]) "'><rect class='" class "' x='" (lane_center(i) - lane_width / 2 + 7) "' y='" (y + 2) \
-    "' width='" (wide < 3 ? 3 : wide) "' height='18' rx='2'/>" fitting("pt", lane_center(i), y + 15, text, lane_width - 18) "<title>node " i ": segment " m \
-    ", " text ", " count(segment_edits[i, m], "edit") ", header epoch " segment_epoch[i, m] "</title></g>")
+  draw(mark_of(epoch_class(segment_epoch[i, m]), "<rect class='" class "' x='" (lane_center(i) - lane_width / 2 + 7) "' y='" (y + 2) \
+    "' width='" (wide < 3 ? 3 : wide) "' height='18' rx='2'/>" fitting("pt", lane_center(i), y + 15, text, lane_width - 18), \
+    "node " i ": segment " m ", " text ", " count(segment_edits[i, m], "edit") ", header epoch " segment_epoch[i, m]))
 }

@@ -1,17 +1,17 @@
 # Colours, classes and the legend.
 
 function print_style(    i) {
-  print ":root{color-scheme:light dark;--bg:#fff;--fg:#1b1f24;--mu:#667080;--ln:#cdd2da;--ok:#14713a;--bad:#c0262d;--dn:#8b93a0;" \
-    "--dk:#2b3038;--k9:#7a8494" palette("#2563eb #c2570c #8b34d6 #0e8088 #c02672 #8a5a1e #4a45c9 #66750f") "}"
+  print ":root{color-scheme:light dark;--bg:#fff;--fg:#1b1f24;--mu:#5c6675;--ln:#cdd2da;--ok:#14713a;--bad:#b3202a;--dn:#7d8591;" \
+    "--dk:#2b3038;--k9:#6f7988" palette("#2563eb #c2570c #8b34d6 #0e8088 #c02672 #8a5a1e #4a45c9 #66750f") "}"
   print "@media(prefers-color-scheme:dark){:root{--bg:#14171c;--fg:#e6e9ee;--mu:#98a2b0;--ln:#3a414c;--ok:#5fd38d;--bad:#ff7b7b;" \
     "--dn:#8b93a0;--dk:#d5dae2;--k9:#98a2b0" palette("#7aa7ff #ff9d5c #c99bff #4fd0d8 #ff86bd #d9a866 #a5a1ff #c3d05a") "}}"
   for (i = 0; i <= 9; i++) if (i != 8) printf ".e%d{--c:var(--k%d)}", i, i
   print ""
   print "text{font:12px system-ui,sans-serif;fill:var(--fg)}.pt,.hn,.lost,.lo,.an{text-anchor:middle}.pt{font-size:11px}"
   print ".hn{font-weight:700;font-size:13px}.an{font-weight:700}.lost,.lo{paint-order:stroke;stroke:var(--bg);stroke-width:3px}"
-  print ".l1{font-weight:600}.l2,.lo{fill:var(--mu);font-size:11px}.lo{opacity:.75}.gh{font-weight:700;font-size:13px}"
+  print ".l1{font-weight:600}.l2,.lo{fill:var(--mu);font-size:11px}.gh{font-weight:700;font-size:13px}"
   print ".op{font-style:italic}.gap{fill:var(--bad);font-weight:600}.ln{stroke:var(--ln);stroke-width:2}"
-  print ".al{stroke:var(--ln);stroke-width:1;stroke-dasharray:3 3}.down{fill:var(--dn);fill-opacity:.22}"
+  print ".al{stroke:var(--ln);stroke-width:1;stroke-dasharray:3 3}.down{fill:var(--dn);fill-opacity:.18}.hit{fill:none;pointer-events:all}"
   print ".bus,.ar{stroke:var(--c,var(--k9));stroke-width:1.6;fill:none}.lt{stroke-dasharray:5 4}.dot,.hd{fill:var(--c,var(--k9))}"
   if (has_names) print ".im{fill:var(--ok);fill-opacity:.35;stroke:var(--ok);stroke-width:1.5}.sr{font:11px ui-monospace,monospace}"
   print ".nd{fill:var(--bg);stroke:var(--k9)}.cutl{stroke:var(--bad);stroke-dasharray:2 2}.x{stroke:var(--bad);stroke-width:2;fill:none}"

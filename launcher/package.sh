@@ -38,7 +38,7 @@ copy_texts() {
 
 # Lays out the program, its record, and what the launcher runs and reads, in the folder $1.
 lay_out_launcher() {
-  mkdir -p "$1/draw" "$1/docs"
+  mkdir -p "$1/draw" "$1/docs" "$1/examples/stories"
   install -m 755 "$program" "$1/program"
   write_record "$(kit_of_program)" >"$1/record"
   copy_texts "$1" "$top/qjm"
@@ -50,17 +50,19 @@ lay_out_launcher() {
   copy_texts "$1/draw" "$top"/draw/*.awk
   # (the launcher reads its tables; the folder of documents is for reading alone, and some systems leave it out)
   copy_texts "$1/docs" "$top/docs/FORMATS.md"
+  install -m 644 "$top"/examples/stories/*.qjm "$1/examples/stories"
 }
 
 # Lays out what is to be read, in the folder $1: documents, which name one another from their own folder, examples, and the licences
 # of all that the program is made of.
 lay_out_documents() {
   texts=''
-  mkdir -p "$1/docs" "$1/examples" "$1/licences"
+  mkdir -p "$1/docs" "$1/examples/stories" "$1/licences"
   copy_texts "$1" "$top/README.md" "$top/LICENSE" "$top/NOTICE"
   copy_texts "$1/docs" "$top"/docs/*.md
   install -m 644 "$top"/docs/*.svg "$1/docs"
-  install -m 644 "$top"/examples/* "$1/examples"
+  install -m 644 "$top"/examples/*.* "$1/examples"
+  install -m 644 "$top"/examples/stories/*.qjm "$1/examples/stories"
   copy_licences "$1/licences"
 }
 

@@ -92,6 +92,7 @@ test_package() {
   make_tree
   cp -r "$top/docs" "$top/draw" "$top/README.md" "$top/LICENSE" "$top/NOTICE" "$room/tree"
   cp -rL "$top/examples" "$room/tree"
+  make_tale
   qjm --package "$room"
   expect 'the status of a package before a build' "$status" 70
   qjm --build
@@ -131,6 +132,10 @@ TEXT
   installed help
   grep -q '^  qjm play ' "$room/out" || expect 'the help of an installation' "$(cat "$room/out")" 'qjm play'
   ! grep -q -e 'qjm --build' "$room/out" || expect 'the help of an installation' "$(cat "$room/out")" 'nothing of --build'
+  export LC_ALL=C
+  installed tour tale
+  unset LC_ALL
+  expect_run 'the tour of an installation' "$(told_tale qjm "$room/installed/lib/qjm")" 0
   installed help --build
   expect 'the status of the help of a build in an installation' "$status" 1
   (cd "$room/installed" && grep -r -n -e '[^[:alnum:]_$"/.]\.\.*/qjm\>' . && gzip -dc share/man/man1/qjm.1.gz | grep -n -e '\./qjm' -e '\\-build') >"$room/said"

@@ -3,9 +3,9 @@
 # The program's commands, and those that the launcher answers itself.
 readonly PROGRAM_COMMANDS='play run piped mirror boot gen node serve lead oev oiv fsck judge'
 if is_installed; then
-  readonly OWN_COMMANDS='draw cluster rules help' OWN_OPTIONS='--version'
+  readonly OWN_COMMANDS='draw tour cluster rules help' OWN_OPTIONS='--version'
 else
-  readonly OWN_COMMANDS='draw cluster rules test help' OWN_OPTIONS='--build --package --use --version'
+  readonly OWN_COMMANDS='draw tour cluster rules test help' OWN_OPTIONS='--build --package --use --version'
 fi
 readonly SEGMENT_LISTINGS='list stats json' IMAGE_LISTINGS='delimited sizes json'
 
@@ -106,6 +106,7 @@ legal_words() {
     1fsck,*) echo 'after `fsck` comes nothing; to check another folder go there (cd), then `fsck`' ;;
     1judge,*) echo 'after `judge` comes nothing; the report is the standard input: `./qjm judge < FILE`' ;;
     ?draw,*) echo 'after `draw` come --svg, --whole and a title; the report is the standard input: `./qjm draw < FILE`' ;;
+    1tour,*) echo "after \`tour\` comes nothing, or one story: $(list_stories | paste -sd ' ' -)" ;;
     1play,* | 1run,* | 1mirror,* | 1boot,*) echo "after \`$2\` comes nothing, or the name of one file" ;;
     1oev,*) echo "after \`oev\` comes one of $SEGMENT_LISTINGS back" ;;
     1oiv,*) echo "after \`oiv\` comes one of $IMAGE_LISTINGS ls" ;;
