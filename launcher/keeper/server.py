@@ -4,6 +4,7 @@ from __future__ import annotations
 import asyncio
 import json
 import os
+import socket
 import stat
 from pathlib import Path
 from typing import Any
@@ -29,11 +30,14 @@ class Server:
                 os.unlink(self.path)
         except FileNotFoundError:
             pass
+        door = socket.socket(socket.AF_UNIX, socket.SOCK_STREAM)
+        # (nothing is awaited meanwhile: the mask is the process's, and folders that another task made would lack their owner's `x`)
         mask = os.umask(0o177)
         try:
-            self.server = await asyncio.start_unix_server(self.serve, str(self.path), limit=LONGEST)
+            door.bind(str(self.path))
         finally:
             os.umask(mask)
+        self.server = await asyncio.start_unix_server(self.serve, sock=door, limit=LONGEST)
 
     async def serve(self, reader: asyncio.StreamReader, writer: asyncio.StreamWriter) -> None:
         """One asker's lines, each as it comes. Another machine's clients are tied to its connection, and go with it."""

@@ -116,6 +116,8 @@ class FakeTest(Whole):
                 time.sleep(0.05)
             self.assertEqual(len(children_in(self.top)), 6)
             self.assertEqual(oct((self.top / 'cluster.run/keeper.sock').stat().st_mode & 0o777), '0o600')
+            for folder in ('n1', 'n2', 'n3', 'a', 'b'):
+                self.assertEqual((self.top / folder).stat().st_mode & 0o700, 0o700, folder)
             self.assertEqual(self.run_front('failover', 'a')[0], 0)
             os.kill(self.keeper(), signal.SIGKILL)
             self.assertEqual(self.await_none(10), [])
