@@ -66,9 +66,11 @@ copy_sources() {
   { look_for_keep <"$top/crates/qjm/src/main.rt" && write_keeper; } >"$main"
 }
 
-# Changes the first lines of `main`.
+# Changes the first lines of `main`, and brings in what the words of a process are asked by.
 look_for_keep() {
-  sed 's/^fn main(rt: HostRuntime) -> ExitCode {$/&\
+  sed 's/^use std::process::ExitCode;$/&\
+use std::rt::Env;/
+    s/^fn main(rt: HostRuntime) -> ExitCode {$/&\
     if let Some(status) = keep_itself(\&rt) {\
         return ExitCode::from(status);\
     }/'

@@ -61,6 +61,7 @@ test_kept_commands() {
 test_keeper_in_main() {
   (program=$top/none && . "$top/launcher/quick.sh" && look_for_keep <"$top/crates/qjm/src/main.rt") >"$room/main"
   expect 'the lines that look for --keep in main.rt' "$(grep -c 'keep_itself(&rt)' "$room/main")" 1
+  expect 'what it brings in' "$(grep -c '^use std::rt::Env;$' "$room/main")" 1
   for word in 'rt: HostRuntime' read_words; do
     grep -q "$word" "$top/crates/qjm/src/main.rt" || expect "main.rt has $word" no yes
   done
