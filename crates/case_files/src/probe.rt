@@ -16,43 +16,36 @@ fn next_txid(state: &NodeState) -> u64 {
 }
 
 // What is served from each txid on.
-fn put_reads(alloc: Global, state: &NodeState, lines: &mut Vec<String>) -> Result<(), AllocError> {
+fn put_reads(state: &NodeState, lines: &mut String) -> Result<(), AllocError> {
     for from in 1..=next_txid(state).min(MOST_READS) {
-        lines.push(format!(in alloc; "read {from}")?)?;
+        writeln!(lines, "read {from}")?;
     }
     Ok(())
 }
 
 // What is held of each segment. The first question also tells the writer's epoch and the committed
 // txid.
-fn put_fetches(
-    alloc: Global,
-    state: &NodeState,
-    lines: &mut Vec<String>,
-) -> Result<(), AllocError> {
+fn put_fetches(state: &NodeState, lines: &mut String) -> Result<(), AllocError> {
     let epoch = state.promised.saturating_add(1);
-    lines.push(format!(in alloc; "new {epoch}")?)?;
-    lines.push(format!(in alloc; "prepare {epoch} 1 0 1")?)?;
+    writeln!(lines, "new {epoch}\nprepare {epoch} 1 0 1")?;
     let mut serial = 2u64;
     for segment in state.segments.as_slice() {
         let start = segment.start;
-        lines.push(format!(in alloc; "prepare {epoch} {serial} 0 {start}")?)?;
         let next = serial.saturating_add(1);
-        lines.push(format!(in alloc; "fetch {epoch} {next} 0 {start} {start}")?)?;
+        writeln!(lines, "prepare {epoch} {serial} 0 {start}")?;
+        writeln!(lines, "fetch {epoch} {next} 0 {start} {start}")?;
         serial = next.saturating_add(1);
     }
     Ok(())
 }
 
-// All questions, by what the node in memory holds. They tell the promise, what is stored as
-// committed, and each segment with its edits. After them the node has promised one epoch more.
-fn questions(alloc: Global, state: &NodeState) -> Result<Vec<String>, AllocError> {
-    let mut lines = Vec::new(alloc);
-    lines.push(String::from_str(alloc, "state")?)?;
-    lines.push(String::from_str(alloc, "manifest")?)?;
-    put_reads(alloc, state, &mut lines)?;
-    put_fetches(alloc, state, &mut lines)?;
-    Ok(lines)
+// All questions, a line each, by what the node in memory holds. They tell the promise, what is
+// stored as committed, and each segment with its edits. After them the node has promised one epoch
+// more.
+fn put_questions(state: &NodeState, lines: &mut String) -> Result<(), AllocError> {
+    lines.push_str("state\nmanifest\n")?;
+    put_reads(state, lines)?;
+    put_fetches(state, lines)
 }
 
 // Whether both answer the line alike. How they don't is told.
@@ -71,6 +64,22 @@ fn is_alike<N: Node>(
     Ok(seen == due)
 }
 
+// Whether both answer all lines alike.
+fn answer_alike<N: Node>(
+    alloc: Global,
+    node: &mut N,
+    plain: &mut PlainNode,
+    lines: &str,
+    told: &mut String,
+) -> anyhow::Result<bool> {
+    for line in lines.lines() {
+        if !is_alike(alloc, node, plain, line, told)? {
+            return Ok(false);
+        }
+    }
+    Ok(true)
+}
+
 /// Whether a node and one in memory answer all questions alike; after them both have promised one
 /// epoch more. How they don't is told. An `Err` is lack of memory.
 pub fn are_alike<N: Node>(
@@ -79,11 +88,7 @@ pub fn are_alike<N: Node>(
     plain: &mut PlainNode,
     told: &mut String,
 ) -> anyhow::Result<bool> {
-    let lines = questions(alloc, plain.state())?;
-    for line in lines.iter() {
-        if !is_alike(alloc, node, plain, line, told)? {
-            return Ok(false);
-        }
-    }
-    Ok(true)
+    let mut lines = String::new(alloc);
+    put_questions(plain.state(), &mut lines)?;
+    answer_alike(alloc, node, plain, &lines, told)
 }

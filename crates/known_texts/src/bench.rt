@@ -3,13 +3,14 @@ use crate::cuts::{cut_in_memory, cut_of};
 use crate::disk_calls::{call_disk, is_change, is_disk_call};
 use crate::image_calls::{call_images, is_image_call};
 use crate::openings::name_text;
+use crate::shown::written;
 use anyhow::bail;
 use base_disk::{Choice, MemDisk, UntoldDisk};
 use case_files::{CaseLine, are_alike, ask, choice_of, number_and_rest, told_by, word_and_rest};
 use disk_node::{JournalNode, OpenFail};
 use journal_core::Node;
 use journal_step::PlainNode;
-use std::alloc::Global;
+use std::alloc::{AllocError, Global};
 use std::mem;
 
 /// A disk, or the node that has it, and a node in memory.
@@ -26,6 +27,15 @@ pub struct Bench {
 
 fn empty_disk(alloc: Global) -> UntoldDisk {
     UntoldDisk::new(MemDisk::new(alloc))
+}
+
+// Numbers with spaces between them.
+fn numbers_of(alloc: Global, text: &str) -> anyhow::Result<Vec<u64>> {
+    let mut numbers = Vec::new(alloc);
+    for number in text.split(' ') {
+        numbers.push(number.parse()?)?;
+    }
+    Ok(numbers)
 }
 
 impl Bench {
@@ -123,25 +133,24 @@ impl Bench {
     pub fn open(&mut self, told: &mut String) -> anyhow::Result<()> {
         let disk = mem::replace(&mut self.disk, empty_disk(self.alloc));
         let _ = self.plain.restart(self.alloc);
-        match JournalNode::open(self.alloc, disk.disk) {
+        written(match JournalNode::open(self.alloc, disk.disk) {
             Ok(node) => {
                 drop(self.node.replace(node));
-                told.push_str("opened")?;
+                told.push_str("opened")
             }
             Err(OpenFail::DiskFault { disk }) => {
                 self.put_disk(disk);
-                told.push_str("disk fault")?;
+                told.push_str("disk fault")
             }
             Err(OpenFail::BadFile { disk, name }) => {
                 self.put_disk(disk);
-                name_text(&name, told)?;
+                name_text(&name, told)
             }
             Err(OpenFail::OutOfMemory { disk }) => {
                 self.put_disk(disk);
-                bail!("out of memory");
+                Err(AllocError)
             }
-        }
-        Ok(())
+        })
     }
 
     // The node gives its disk back, and the node in memory goes down.
@@ -194,10 +203,7 @@ impl Bench {
             self.stop_after(calls.parse()?);
             return Ok(());
         }
-        let mut calls = Vec::new(self.alloc);
-        for number in rest.strip_prefix("at ").unwrap_or("").split(' ') {
-            calls.push(number.parse()?)?;
-        }
+        let calls = numbers_of(self.alloc, rest.strip_prefix("at ").unwrap_or(""))?;
         self.fail_at(calls);
         Ok(())
     }

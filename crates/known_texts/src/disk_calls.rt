@@ -1,9 +1,9 @@
 //! Calls of a disk, by their lines.
 use crate::openings::{opens_text, put_names};
-use anyhow::bail;
+use crate::shown::written;
 use base_disk::{Disk, DiskFail, UntoldDisk};
 use case_files::{bytes_of, number_and_rest, word_and_rest};
-use std::alloc::Global;
+use std::alloc::{AllocError, Global};
 
 const CALLS: &[&str] = &[
     "write", "shorten", "sync", "rename", "remove", "length", "read", "names", "files", "opens",
@@ -21,12 +21,11 @@ pub fn is_disk_call(word: &str) -> bool {
 
 /// Tells what a call that changes the disk came to. An `Err` is lack of memory.
 pub fn tell_done(done: Result<(), DiskFail>, told: &mut String) -> anyhow::Result<()> {
-    match done {
-        Ok(()) => told.push_str("done")?,
-        Err(DiskFail::Failed) => told.push_str("disk fault")?,
-        Err(DiskFail::OutOfMemory) => bail!("out of memory"),
-    }
-    Ok(())
+    written(match done {
+        Ok(()) => told.push_str("done"),
+        Err(DiskFail::Failed) => told.push_str("disk fault"),
+        Err(DiskFail::OutOfMemory) => Err(AllocError),
+    })
 }
 
 // `NAME AT HEX`: the bytes are written.
@@ -50,24 +49,36 @@ fn read_bytes(
     told: &mut String,
 ) -> anyhow::Result<()> {
     let (at, room) = number_and_rest(rest)?;
-    let mut bytes = vec![in alloc; 0u8; room.parse()?]?;
-    match disk.read(name, at, &mut bytes) {
-        Ok(count) => {
-            bytes.truncate(count);
-            told.push_str(&hex::encode(alloc, bytes.as_slice())?)?;
-        }
-        Err(_) => told.push_str("disk fault")?,
-    }
-    Ok(())
+    put_read(alloc, disk, name, at, room.parse()?, told)
+}
+
+// The bytes from a place on, as many as there is room for.
+fn put_read(
+    alloc: Global,
+    disk: &mut UntoldDisk,
+    name: &str,
+    at: u64,
+    room: usize,
+    told: &mut String,
+) -> anyhow::Result<()> {
+    let mut bytes = vec![in alloc; 0u8; room]?;
+    written(match disk.read(name, at, &mut bytes) {
+        Ok(count) => put_digits(alloc, bytes.get(..count).unwrap_or(&[]), told),
+        Err(_) => told.push_str("disk fault"),
+    })
+}
+
+/// Tells bytes in hexadecimal digits.
+pub fn put_digits(alloc: Global, bytes: &[u8], told: &mut String) -> Result<(), AllocError> {
+    told.push_str(&hex::encode(alloc, bytes)?)
 }
 
 fn tell_length(disk: &mut UntoldDisk, name: &str, told: &mut String) -> anyhow::Result<()> {
-    match disk.length(name) {
-        Ok(Some(length)) => write!(told, "{length}")?,
-        Ok(None) => told.push_str("absent")?,
-        Err(_) => told.push_str("disk fault")?,
-    }
-    Ok(())
+    written(match disk.length(name) {
+        Ok(Some(length)) => write!(told, "{length}"),
+        Ok(None) => told.push_str("absent"),
+        Err(_) => told.push_str("disk fault"),
+    })
 }
 
 // A file's name and its bytes.
@@ -79,8 +90,7 @@ fn tell_file(
 ) -> anyhow::Result<()> {
     let length = disk.length(name)?.unwrap_or(0);
     write!(told, "\n  {name} ")?;
-    let room = format!(in alloc; "0 {length}")?;
-    read_bytes(alloc, disk, name, &room, told)
+    put_read(alloc, disk, name, 0, length as usize, told)
 }
 
 // Each file's name and its bytes, a line each.

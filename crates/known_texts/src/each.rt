@@ -2,6 +2,7 @@
 use crate::bench::Bench;
 use crate::cuts::choice_text;
 use crate::openings::opens_text;
+use crate::shown::written;
 use anyhow::bail;
 use base_disk::{Choice, Disk};
 use case_files::{CaseLine, ask};
@@ -94,23 +95,45 @@ fn cuts_alike(
     copy.is_alike(told)
 }
 
-// The call fails, the node goes down and is started again.
-fn fail_once(copy: &mut Bench, line: &str, call: u64) -> anyhow::Result<()> {
-    let mut told = String::new(copy.alloc);
-    copy.cut_plain(call, Choice::New, line, &mut told)?;
+// The call fails, and the node goes down. What it tells is passed over.
+fn fail_once(copy: &mut Bench, line: &str, call: u64, passed: &mut String) -> anyhow::Result<()> {
+    copy.cut_plain(call, Choice::New, line, passed)?;
     copy.fail_at(vec![in copy.alloc; call]?);
-    take_line(copy, line, &mut told)?;
-    if !is_fault(&told) {
-        bail!("call {call} doesn't fail: {told}");
+    take_line(copy, line, passed)?;
+    if !is_fault(passed) {
+        bail!("call {call} doesn't fail: {passed}");
     }
-    take_line(copy, "state", &mut told)?;
-    if told.as_str() != "refused 1 Down" {
-        bail!("it isn't down after call {call}: {told}");
+    take_line(copy, "state", passed)?;
+    if passed.as_str() != "refused 1 Down" {
+        bail!("it isn't down after call {call}: {passed}");
     }
-    told.clear();
-    copy.tell_both("restart", "", &mut told)?;
-    if told.as_str() != "up" {
-        bail!("it doesn't come up after call {call}: {told}");
+    Ok(())
+}
+
+// The node is started again.
+fn start_again(copy: &mut Bench, call: u64, passed: &mut String) -> anyhow::Result<()> {
+    passed.clear();
+    copy.tell_both("restart", "", passed)?;
+    if passed.as_str() != "up" {
+        bail!("it doesn't come up after call {call}: {passed}");
+    }
+    Ok(())
+}
+
+// The call fails, the node goes down and is started again, and may crash then.
+fn fail_and_crash(
+    copy: &mut Bench,
+    each: &Each,
+    call: u64,
+    crash: Option<Choice>,
+    passed: &mut String,
+) -> anyhow::Result<()> {
+    copy.replay(each.before)?;
+    fail_once(copy, each.line, call, passed)?;
+    start_again(copy, call, passed)?;
+    if let Some(choice) = crash {
+        copy.crash_by(choice);
+        copy.open(passed)?;
     }
     Ok(())
 }
@@ -122,14 +145,27 @@ fn faults_alike(
     crash: Option<Choice>,
     told: &mut String,
 ) -> anyhow::Result<bool> {
-    copy.replay(each.before)?;
-    fail_once(copy, each.line, call)?;
-    if let Some(choice) = crash {
-        let mut passed = String::new(copy.alloc);
-        copy.crash_by(choice);
-        copy.open(&mut passed)?;
-    }
+    let mut passed = String::new(copy.alloc);
+    let failed = fail_and_crash(copy, each, call, crash, &mut passed);
+    drop(passed);
+    failed?;
     copy.is_alike(told)
+}
+
+// What the files open as after so many calls and a crash, and how many there are.
+fn take_left(
+    copy: &mut Bench,
+    each: &Each,
+    call: u64,
+    choice: Choice,
+    left: &mut String,
+) -> anyhow::Result<()> {
+    retake(copy, each, Some(call), left)?;
+    copy.crash_by(choice);
+    left.clear();
+    opens_text(copy.alloc, &mut copy.disk, left)?;
+    let count = copy.disk.list()?.len();
+    written(write!(left, "; {count} files"))
 }
 
 // What is left where it differs from what was told last.
@@ -141,17 +177,12 @@ fn put_left(
     told: &mut String,
 ) -> anyhow::Result<()> {
     let mut left = String::new(copy.alloc);
-    retake(copy, each, Some(call), &mut left)?;
-    copy.crash_by(choice);
-    left.clear();
-    opens_text(copy.alloc, &mut copy.disk, &mut left)?;
-    let count = copy.disk.list()?.len();
-    write!(left, "; {count} files")?;
-    if !told.ends_with(left.as_str()) {
-        let choice = choice_text(copy.alloc, choice)?;
-        write!(told, "\n  from {call} {choice}: {left}")?;
+    take_left(copy, each, call, choice, &mut left)?;
+    if told.ends_with(left.as_str()) {
+        return Ok(());
     }
-    Ok(())
+    let choice = choice_text(copy.alloc, choice)?;
+    written(write!(told, "\n  from {call} {choice}: {left}"))
 }
 
 // Where there is no crash that one call of the opening fails.

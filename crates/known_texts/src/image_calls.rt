@@ -2,7 +2,8 @@
 ghost use Rattle.std.specs.Prelude.{◌≤◌};
 ghost use Rattle.journal_core.specs.Limits.{max_number};
 
-use crate::disk_calls::tell_done;
+use crate::disk_calls::{put_digits, tell_done};
+use crate::shown::written;
 use anyhow::bail;
 use base_disk::{DiskFail, UntoldDisk};
 use base_words::MAX;
@@ -14,6 +15,7 @@ use ns_store::{
 use ns_tree::Namespace;
 use play_standby::{Standby, checkpoint};
 use std::alloc::{AllocError, Global};
+use std::fmt::Debug;
 
 const CALLS: &[&str] = &[
     "save",
@@ -38,12 +40,31 @@ fn tell_bytes(
     told: &mut String,
 ) -> Result<(), AllocError> {
     match found {
-        Ok(LoadedBytes::Bytes(bytes)) => told.push_str(&hex::encode(alloc, bytes.as_slice())?),
+        Ok(LoadedBytes::Bytes(bytes)) => put_digits(alloc, &bytes, told),
         Ok(LoadedBytes::NoImage) => told.push_str("no image"),
         Ok(LoadedBytes::DigestDiffers { .. }) => told.push_str("another digest"),
         Ok(LoadedBytes::BadDigest) => told.push_str("no digest"),
         Err(_) => told.push_str("disk fault"),
     }
+}
+
+// An answer as it is shown.
+fn tell_shown<T: Debug>(answer: &T, told: &mut String) -> anyhow::Result<()> {
+    written(write!(told, "{answer:?}"))
+}
+
+// The bytes of an image are saved.
+fn tell_saved(
+    alloc: Global,
+    disk: &mut UntoldDisk,
+    txid: u64,
+    digits: &str,
+    told: &mut String,
+) -> anyhow::Result<()>
+    requires { txid ≤ max_number }
+{
+    let bytes = bytes_of(alloc, digits)?;
+    tell_done(save_bytes(alloc, disk, txid, &bytes), told)
 }
 
 // The namespace of an image of these bytes is saved, at the txid that they tell.
@@ -69,18 +90,17 @@ fn restore(
     disk: &mut UntoldDisk,
     txid: u64,
     told: &mut String,
-) -> anyhow::Result<()> {
+) -> Result<(), AllocError> {
     match load(alloc, disk, txid) {
         Ok(Loaded::Image { namespace, txid }) => {
             let image = image_of(alloc, &namespace, txid);
             drop(namespace);
-            told.push_str(&hex::encode(alloc, image?.as_slice())?)?;
+            put_digits(alloc, &image?, told)
         }
-        Ok(Loaded::NoImage) => told.push_str("no image")?,
-        Ok(_) => told.push_str("a bad image")?,
-        Err(_) => told.push_str("disk fault")?,
+        Ok(Loaded::NoImage) => told.push_str("no image"),
+        Ok(_) => told.push_str("a bad image"),
+        Err(_) => told.push_str("disk fault"),
     }
-    Ok(())
 }
 
 // A standby of no edits that stands at that txid saves its image, and keeps two.
@@ -109,16 +129,12 @@ pub fn call_images(
         bail!("too great a number");
     }
     match word {
-        "save" => tell_done(
-            save_bytes(alloc, disk, number, &bytes_of(alloc, digits)?),
-            told,
-        )?,
-        "load" => tell_bytes(alloc, load_bytes(alloc, disk, number), told)?,
-        "restore" => restore(alloc, disk, number, told)?,
-        "keep" => tell_done(retain(alloc, disk, number), told)?,
-        "least" => write!(told, "{:?}", min_to_keep(alloc, disk, number))?,
-        "checkpoint" => tell_done(save_standby(alloc, disk, number), told)?,
-        _ => write!(told, "{:?}", newest(alloc, disk))?,
+        "save" => tell_saved(alloc, disk, number, digits, told),
+        "load" => written(tell_bytes(alloc, load_bytes(alloc, disk, number), told)),
+        "restore" => written(restore(alloc, disk, number, told)),
+        "keep" => tell_done(retain(alloc, disk, number), told),
+        "least" => tell_shown(&min_to_keep(alloc, disk, number), told),
+        "checkpoint" => tell_done(save_standby(alloc, disk, number), told),
+        _ => tell_shown(&newest(alloc, disk), told),
     }
-    Ok(())
 }

@@ -1,5 +1,5 @@
 //! What the files of a disk open as.
-use anyhow::bail;
+use crate::shown::written;
 use base_disk::{Disk, UntoldDisk};
 use base_words::Name;
 use disk_files::{NodeFiles, OpenedFiles, open_files};
@@ -46,20 +46,24 @@ fn put_opened(files: &NodeFiles, told: &mut String) -> Result<(), AllocError> {
 /// Opens the files, and tells the promise, the writer's epoch, the committed txid, and each
 /// segment: what it is, its start, its end, its epoch and how many bytes of its file are whole.
 pub fn opens_text(alloc: Global, disk: &mut UntoldDisk, told: &mut String) -> anyhow::Result<()> {
-    match open_files(alloc, disk) {
-        OpenedFiles::Files(files) => put_opened(&files, told)?,
-        OpenedFiles::BadFile { name } => name_text(&name, told)?,
-        OpenedFiles::DiskFault => told.push_str("disk fault")?,
-        OpenedFiles::OutOfMemory => bail!("out of memory"),
-    }
-    Ok(())
+    written(match open_files(alloc, disk) {
+        OpenedFiles::Files(files) => put_opened(&files, told),
+        OpenedFiles::BadFile { name } => name_text(&name, told),
+        OpenedFiles::DiskFault => told.push_str("disk fault"),
+        OpenedFiles::OutOfMemory => Err(AllocError),
+    })
 }
 
 /// Tells the names of all files.
 pub fn put_names(disk: &mut UntoldDisk, told: &mut String) -> anyhow::Result<()> {
     let names = disk.list()?;
+    written(put_all(&names, told))
+}
+
+// How many names there are, and each of them.
+fn put_all(names: &[String], told: &mut String) -> Result<(), AllocError> {
     write!(told, "{}", names.len())?;
-    for name in names.iter() {
+    for name in names {
         write!(told, " {name}")?;
     }
     Ok(())

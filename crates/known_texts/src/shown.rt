@@ -2,8 +2,13 @@
 use base_words::{OutOfMemory, put_decimal, put_hex};
 use list_text::put_row;
 use ns_tree::Namespace;
-use std::alloc::Global;
+use std::alloc::{AllocError, Global};
 use std::fmt::Debug;
+
+/// What came of telling something. An `Err` is lack of memory.
+pub fn written(put: Result<(), AllocError>) -> anyhow::Result<()> {
+    Ok(put?)
+}
 
 /// Appends a value as it is shown.
 pub fn put_shown<T: Debug>(alloc: Global, value: &T, out: &mut Vec<u8>) -> Result<(), OutOfMemory> {

@@ -4,7 +4,7 @@ ghost use Rattle.std.specs.Prelude.{◌<◌, ◌≢◌, [], length, IfOk};
 use anyhow::{anyhow, bail};
 use case_files::{are_alike, bytes_of, drive, number_and_rest, reply_text, word_and_rest};
 use journal_core::{BodyList, Bytes, Heard, SharedRequest};
-use journal_history::{LentAsk, NodeAnswer, Stop};
+use journal_history::{LentAsk, ListedLine, NodeAnswer, Stop};
 use journal_step::PlainNode;
 use journal_text::print_request;
 use run_safety::{Event, Fate};
@@ -26,8 +26,21 @@ pub fn tell_world(alloc: Global, input: &[u8], told: &mut String) -> anyhow::Res
     let (first, events) = text.split_once('\n').ok_or(anyhow!("no world"))?;
     let (nodes, actors) = number_and_rest(first)?;
     let mut world = World::new(alloc, nodes as usize, actors.parse()?)?;
-    let taken = take_events(alloc, &mut world, events, told);
-    tell_ends(alloc, world, taken, told)
+    match take_all(alloc, &mut world, events, told) {
+        Ok(plains) => tell_ends(alloc, world, plains, told),
+        Err(error) => Err(error),
+    }
+}
+
+// Takes the events, and tells what each node listed.
+fn take_all(
+    alloc: Global,
+    world: &mut World<PlainNode>,
+    events: &str,
+    told: &mut String,
+) -> anyhow::Result<Vec<PlainNode>> {
+    take_events(alloc, world, events, told)?;
+    driven(alloc, world, told)
 }
 
 fn take_events(
@@ -38,18 +51,29 @@ fn take_events(
 ) -> anyhow::Result<()> {
     for line in events.lines() {
         writeln!(told, "{line}")?;
-        let (word, rest) = word_and_rest(line);
-        let (number, rest) = number_and_rest(rest)?;
-        let seen = match word {
-            "kill" | "restart" | "arm" => happen(alloc, world, word, number as usize)?,
-            _ => match u32::try_from(number) {
-                Ok(actor) => act(alloc, world, word, actor, rest, told)?,
-                Err(_) => bail!("no such actor"),
-            },
-        };
-        put_seen(alloc, &seen, told)?;
+        let seen = take_event(alloc, world, line, told)?;
+        let put = put_seen(alloc, &seen, told);
+        drop(seen);
+        put?;
     }
     Ok(())
+}
+
+fn take_event(
+    alloc: Global,
+    world: &mut World<PlainNode>,
+    line: &str,
+    told: &mut String,
+) -> anyhow::Result<Seen> {
+    let (word, rest) = word_and_rest(line);
+    let (number, rest) = number_and_rest(rest)?;
+    match word {
+        "kill" | "restart" | "arm" => happen(alloc, world, word, number as usize),
+        _ => match u32::try_from(number) {
+            Ok(actor) => act(alloc, world, word, actor, rest, told),
+            Err(_) => bail!("no such actor"),
+        },
+    }
 }
 
 fn put_seen(alloc: Global, seen: &Seen, told: &mut String) -> Result<(), AllocError> {
@@ -164,7 +188,9 @@ fn call_each(
         if matches!(seen, Seen::NotNext) {
             break;
         }
-        put_seen(alloc, &seen, told)?;
+        let put = put_seen(alloc, &seen, told);
+        drop(seen);
+        put?;
     }
     Ok(Seen::Done)
 }
@@ -244,7 +270,20 @@ fn come_late(
     Ok(world.step(alloc, event))
 }
 
-// Nodes in memory that took what the nodes listed, which is told.
+// A node in memory that took what a node listed, which is told.
+fn driven_node(
+    alloc: Global,
+    number: usize,
+    history: &[ListedLine],
+    told: &mut String,
+) -> anyhow::Result<PlainNode> {
+    writeln!(told, "node {number}")?;
+    let mut plain = PlainNode::new(alloc);
+    drive(alloc, &mut plain, history, told)?;
+    Ok(plain)
+}
+
+// Such a node for each node.
 fn driven(
     alloc: Global,
     world: &World<PlainNode>,
@@ -252,27 +291,35 @@ fn driven(
 ) -> anyhow::Result<Vec<PlainNode>> {
     let mut plains = Vec::new(alloc);
     for node in 1..=world.nodes() {
-        let mut plain = PlainNode::new(alloc);
-        writeln!(told, "node {node}")?;
-        drive(alloc, &mut plain, world.history(node), told)?;
-        plains.push(plain)?;
+        plains.push(driven_node(alloc, node, world.history(node), told)?)?;
     }
     Ok(plains)
 }
 
-fn tell_ends(
+// Whether each node is in one state with the other.
+fn tell_alike(
     alloc: Global,
-    world: World<PlainNode>,
-    taken: anyhow::Result<()>,
+    nodes: &mut [PlainNode],
+    plains: &mut [PlainNode],
     told: &mut String,
 ) -> anyhow::Result<()> {
-    taken?;
-    let mut plains = driven(alloc, &world, told)?;
-    let mut nodes = world.into_nodes(alloc)?;
     for (node, plain) in nodes.iter_mut().zip(plains.iter_mut()) {
         if are_alike(alloc, node, plain, told)? {
             told.push_str("alike\n")?;
         }
     }
     Ok(())
+}
+
+fn tell_ends(
+    alloc: Global,
+    world: World<PlainNode>,
+    mut plains: Vec<PlainNode>,
+    told: &mut String,
+) -> anyhow::Result<()> {
+    let mut nodes = world.into_nodes(alloc)?;
+    let alike = tell_alike(alloc, &mut nodes, &mut plains, told);
+    drop(nodes);
+    drop(plains);
+    alike
 }

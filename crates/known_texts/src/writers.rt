@@ -2,12 +2,13 @@
 ghost use Rattle.std.specs.Prelude.{◌≢◌, [], IfOk};
 ghost use Rattle.writer_core.specs.Writer.{HasBody};
 
+use crate::shown::written;
 use anyhow::{anyhow, bail};
 use case_files::{bytes_of, number_and_rest, word_and_rest};
 use journal_core::{BodyList, Bytes, Heard, OutOfMemory, Request};
 use journal_text::{print_request, read_reply};
 use std::alloc::{AllocError, Global};
-use writer_core::{Task, Turn, Writer};
+use writer_core::{Cause, Task, Turn, Writer};
 
 /// The most bytes of a request that are told.
 const SHOWN: usize = 60;
@@ -38,18 +39,47 @@ fn take_lines(
 ) -> anyhow::Result<()> {
     for line in lines.lines() {
         writeln!(told, "{line}")?;
-        let (word, rest) = word_and_rest(line);
-        match word {
-            "begin" => begin(alloc, writer, rest, told)?,
-            "hear" => hear_each(alloc, writer, rest, told)?,
-            "round" => tell_round(alloc, writer, told)?,
-            "causes" => writeln!(told, "{:?}", writer.causes())?,
-            "room" => writeln!(told, "{}", writer.room())?,
-            "stop" => writer.stop(),
-            _ => bail!("no line of a writer: {line}"),
-        }
+        take_line(alloc, writer, line, told)?;
     }
     Ok(())
+}
+
+fn take_line(
+    alloc: Global,
+    writer: &mut Writer,
+    line: &str,
+    told: &mut String,
+) -> anyhow::Result<()> {
+    let (word, rest) = word_and_rest(line);
+    match word {
+        "begin" => begin(alloc, writer, rest, told),
+        "hear" => hear_each(alloc, writer, rest, told),
+        "round" => written(put_round(alloc, writer, told)),
+        "causes" => written(put_causes(writer.causes(), told)),
+        "room" => written(writeln!(told, "{}", writer.room())),
+        "stop" => {
+            writer.stop();
+            Ok(())
+        }
+        _ => bail!("no line of a writer: {line}"),
+    }
+}
+
+fn put_cause(cause: &Cause, told: &mut String) -> Result<(), AllocError> {
+    match cause {
+        Cause::Ok => told.push_str(" ok"),
+        Cause::Silent => told.push_str(" silent"),
+        Cause::OutOfSync => told.push_str(" out of sync"),
+        Cause::Refused(refusal) => write!(told, " refused {}", refusal.number()),
+    }
+}
+
+// What came of each node's part in a round.
+fn put_causes(causes: &[Cause], told: &mut String) -> Result<(), AllocError> {
+    for cause in causes {
+        put_cause(cause, told)?;
+    }
+    told.push_str("\n")
 }
 
 fn bodies_of(alloc: Global, text: &str) -> anyhow::Result<BodyList>
@@ -85,8 +115,7 @@ fn task_of(alloc: Global, text: &str) -> anyhow::Result<Task>
 
 fn begin(alloc: Global, writer: &mut Writer, text: &str, told: &mut String) -> anyhow::Result<()> {
     let begun = writer.begin(task_of(alloc, text)?);
-    writeln!(told, "{begun:?}")?;
-    Ok(())
+    written(writeln!(told, "{begun:?}"))
 }
 
 fn put_request(
@@ -135,19 +164,17 @@ fn hear_each(
     for _ in 0..count {
         turn = hear(alloc, writer, reply, told)?;
     }
-    match turn {
-        Some(turn) => writeln!(told, "{turn:?}")?,
-        None => told.push_str("no call\n")?,
-    }
-    Ok(())
+    written(match turn {
+        Some(turn) => writeln!(told, "{turn:?}"),
+        None => told.push_str("no call\n"),
+    })
 }
 
-fn tell_round(alloc: Global, writer: &mut Writer, told: &mut String) -> Result<(), AllocError> {
+fn put_round(alloc: Global, writer: &mut Writer, told: &mut String) -> Result<(), AllocError> {
     match writer.round(alloc)? {
         Some(calls) => {
-            let nodes = format!(in alloc; "{:?}", calls.nodes());
             put_request(alloc, calls.nodes().len(), calls.request().get(), told)?;
-            writeln!(told, "{}", nodes?)
+            writeln!(told, "{:?}", calls.nodes())
         }
         None => told.push_str("no round\n"),
     }

@@ -57,7 +57,7 @@ fn lists_of_plays_agree(rt: HostRuntime) -> Result<(), Fail> {
 fn lists_of_random_plays_agree(rt: HostRuntime) -> Result<(), Fail> {
     let mut draws = Draws::new(17);
     for _ in 0..100 {
-        let text = draw_script(rt.alloc(), &mut draws)?;
+        let text = draw_script(rt.alloc(), &mut draws, true)?;
         is_played(&rt, rt.alloc(), text.as_str())?;
     }
     Ok(())

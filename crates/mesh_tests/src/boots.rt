@@ -1,7 +1,7 @@
 //! A standby boots over the nodes and from the images that a play leaves: from a damaged image,
 //! onto a disk that has one, over disks of which each call fails in turn.
 use crate::plays::{images_of, nodes_of};
-use base_disk::{Choice, Disk, MemDisk, UntoldDisk};
+use base_disk::{Choice, Disk, DiskFail, MemDisk, UntoldDisk};
 use ns_image::ImageCause;
 use ns_store::{LoadedBytes, Newest, load_bytes, newest, save_bytes};
 use play_boot::{Booted, bootstrap};
@@ -23,7 +23,7 @@ const DIGEST: &str = "fsimage_0000000000000000003.md5";
 const ENOUGH: u64 = 40;
 
 /// What came of a bootstrap.
-#[derive(Clone, Copy, PartialEq, Eq)]
+#[derive(Clone, Copy)]
 enum Came {
     Done { position: u64, image: Option<u64> },
     NotEmpty { txid: u64 },
@@ -53,11 +53,19 @@ fn came_of(booted: Booted) -> Came {
     }
 }
 
-/// The donor's disk, and that of the standby.
-#[derive(Drop)]
+/// The donor's disk, and that of the standby. They are let go by one call wherever they are, which
+/// keeps proofs short.
 struct Disks {
     from: UntoldDisk,
     to: UntoldDisk,
+}
+
+impl Drop for Disks {
+    fn drop(self) {
+        let Disks { from, to } = self;
+        drop(from);
+        drop(to);
+    }
 }
 
 /// The disk of the play's first actor, and one of no files.
@@ -82,10 +90,15 @@ fn boot(alloc: Global, disks: &mut Disks) -> Result<Came, Fail> {
 }
 
 /// All is done.
-const DONE: Came = Came::Done {
-    position: 6,
-    image: Some(3),
-};
+fn is_done(came: Came) -> bool {
+    matches!(
+        came,
+        Came::Done {
+            position: 6,
+            image: Some(3)
+        }
+    )
+}
 
 /// The bytes of the image at 3 on a disk; none where it isn't loaded.
 fn image_on(alloc: Global, disk: &mut UntoldDisk) -> Option<Vec<u8>> {
@@ -97,7 +110,7 @@ fn image_on(alloc: Global, disk: &mut UntoldDisk) -> Option<Vec<u8>> {
 
 /// The disk of the standby holds the donor's image.
 fn is_copied(alloc: Global, disks: &mut Disks) -> bool {
-    newest(alloc, &mut disks.to) == Newest::Image { txid: 3 }
+    matches!(newest(alloc, &mut disks.to), Newest::Image { txid: 3 })
         && match (
             image_on(alloc, &mut disks.from),
             image_on(alloc, &mut disks.to),
@@ -118,46 +131,62 @@ fn is_untouched(disks: &mut Disks) -> bool {
 #[test]
 fn an_image_is_copied_once(rt: HostRuntime) -> Result<(), Fail> {
     let mut disks = disks_of(rt.alloc())?;
-    assert!(rt; boot(rt.alloc(), &mut disks)? == DONE);
+    let came = boot(rt.alloc(), &mut disks)?;
+    assert!(rt; is_done(came));
     assert!(rt; is_copied(rt.alloc(), &mut disks));
-    assert!(rt; boot(rt.alloc(), &mut disks)? == Came::NotEmpty { txid: 3 });
+    let came = boot(rt.alloc(), &mut disks)?;
+    assert!(rt; matches!(came, Came::NotEmpty { txid: 3 }));
     assert!(rt; is_copied(rt.alloc(), &mut disks));
     Ok(())
 }
 
-/// What comes of a bootstrap from images of which a file begins with other bytes.
-fn boot_damaged(alloc: Global, name: &str, bytes: &[u8]) -> Result<Option<Came>, Fail> {
-    let mut disks = disks_of(alloc)?;
-    if disks.from.write_at(name, 0, bytes).is_err() {
-        return Ok(None);
+/// How the donor's images are damaged.
+#[derive(Clone, Copy)]
+enum Damage {
+    /// A file begins with these bytes.
+    Begins(&'static str, &'static [u8]),
+    /// The newest image has these bytes, with their digest.
+    Saved(&'static [u8]),
+}
+
+/// Damages the images of a disk in this way.
+fn spoil(alloc: Global, disk: &mut UntoldDisk, by: Damage) -> Result<(), DiskFail> {
+    match by {
+        Damage::Begins(name, bytes) => disk.write_at(name, 0, bytes),
+        Damage::Saved(bytes) => save_bytes(alloc, disk, 7, bytes),
     }
+}
+
+/// What comes of a bootstrap from damaged images; none where the standby's disk is touched.
+fn boot_damaged(alloc: Global, by: Damage) -> Result<Option<Came>, Fail> {
+    let mut disks = disks_of(alloc)?;
+    spoil(alloc, &mut disks.from, by)?;
     let came = boot(alloc, &mut disks)?;
     Ok(is_untouched(&mut disks).then_some(came))
 }
 
-/// What comes of a bootstrap where the newest image has these bytes, with their digest.
-fn boot_saved(alloc: Global, bytes: &[u8]) -> Result<Option<Came>, Fail> {
-    let mut disks = disks_of(alloc)?;
-    if save_bytes(alloc, &mut disks.from, 7, bytes).is_err() {
-        return Ok(None);
-    }
-    let came = boot(alloc, &mut disks)?;
-    Ok(is_untouched(&mut disks).then_some(came))
-}
-
-/// Why bytes are no image.
-fn bad(place: usize, cause: ImageCause) -> Option<Came> {
-    Some(Came::BadImage { place, cause })
-}
+/// Images of which the bytes are none, each with its first fault.
+const DAMAGED: &[(Damage, usize, ImageCause)] = &[
+    (Damage::Begins(DIGEST, b"none"), 0, ImageCause::Digest),
+    (Damage::Saved(b"QJI"), 0, ImageCause::Short),
+    (Damage::Saved(b"QJIN"), 0, ImageCause::Magic),
+    (
+        Damage::Saved(b"QJIM\x00\x00\x00\x03"),
+        4,
+        ImageCause::Layout,
+    ),
+];
 
 #[test]
 fn a_damaged_image_stops_a_boot(rt: HostRuntime) -> Result<(), Fail> {
-    let alloc = rt.alloc();
-    assert!(rt; boot_damaged(alloc, IMAGE, b"QJIN")? == Some(Came::DigestDiffers));
-    assert!(rt; boot_damaged(alloc, DIGEST, b"none")? == bad(0, ImageCause::Digest));
-    assert!(rt; boot_saved(alloc, b"QJI")? == bad(0, ImageCause::Short));
-    assert!(rt; boot_saved(alloc, b"QJIN")? == bad(0, ImageCause::Magic));
-    assert!(rt; boot_saved(alloc, b"QJIM\x00\x00\x00\x03")? == bad(4, ImageCause::Layout));
+    let other = boot_damaged(rt.alloc(), Damage::Begins(IMAGE, b"QJIN"))?;
+    assert!(rt; matches!(other, Some(Came::DigestDiffers)));
+    for (by, wanted, why) in DAMAGED {
+        let Some(Came::BadImage { place, cause }) = boot_damaged(rt.alloc(), *by)? else {
+            return Err("the image isn't bad".into());
+        };
+        assert!(rt; place == *wanted && cause == *why);
+    }
     Ok(())
 }
 
@@ -168,9 +197,9 @@ fn a_donor_that_fails_is_told(rt: HostRuntime) -> Result<(), Fail> {
         let mut disks = disks_of(rt.alloc())?;
         disks.from.disk.stop_after(calls);
         let came = boot(rt.alloc(), &mut disks)?;
-        let failed = came == Came::FromFault && is_untouched(&mut disks);
-        assert!(rt; came == DONE || (failed && !done));
-        done = came == DONE;
+        let failed = matches!(came, Came::FromFault) && is_untouched(&mut disks);
+        assert!(rt; is_done(came) || (failed && !done));
+        done = is_done(came);
     }
     assert!(rt; done);
     Ok(())
@@ -184,10 +213,11 @@ fn is_whole_or_none(alloc: Global, calls: u64, choice: Choice) -> Result<bool, F
     let came = boot(alloc, &mut disks)?;
     disks.to.disk.crash(choice);
     let copied = is_copied(alloc, &mut disks);
-    let none = newest(alloc, &mut disks.to) == Newest::NoImage;
+    let none = matches!(newest(alloc, &mut disks.to), Newest::NoImage);
     Ok(match came {
-        Came::Done { .. } => came == DONE && copied && calls > 9,
-        came => came == Came::ToFault && (none || copied),
+        Came::Done { .. } => is_done(came) && copied && calls > 9,
+        Came::ToFault => none || copied,
+        _ => false,
     })
 }
 

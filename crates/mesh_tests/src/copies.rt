@@ -1,4 +1,4 @@
-//! Late marks and late copies agree in whatever order they stand.
+//! Late marks and late copies agree in whatever order they stand, and a wrong mark is told.
 use crate::plays::mesh_of;
 use journal_core::OutOfMemory;
 use journal_history::{ActorPlan, Mark, MarkKind, Plan};
@@ -23,14 +23,13 @@ fn turned(alloc: Global, marks: &[Mark], left_out: Option<Mark>) -> Result<Actor
     Ok(turned)
 }
 
-/// The mesh of the copies, with its marks turned round, one left out, and one more.
-fn mesh_turned(alloc: Global, left_out: Option<Mark>, more: Option<Mark>) -> Result<Mesh, Fail> {
-    let Mesh {
-        nodes,
-        histories,
-        records,
-        plan,
-    } = mesh_of(alloc, COPIES)?;
+/// The plan's marks turned round, with one left out, and one more.
+fn plan_turned(
+    alloc: Global,
+    plan: &Plan,
+    left_out: Option<Mark>,
+    more: Option<Mark>,
+) -> Result<Plan, OutOfMemory> {
     let mut marks = Vec::new(alloc);
     for actor in plan.as_slice() {
         marks.extend_from_slice(actor.as_slice())?;
@@ -38,14 +37,21 @@ fn mesh_turned(alloc: Global, left_out: Option<Mark>, more: Option<Mark>) -> Res
     if let Some(mark) = more {
         marks.push(mark)?;
     }
-    let mut plan = Plan::new(alloc);
-    plan.push(turned(alloc, &marks, left_out)?)?;
-    Ok(Mesh {
-        nodes,
-        histories,
-        records,
-        plan,
-    })
+    let mut whole = Plan::new(alloc);
+    whole.push(turned(alloc, &marks, left_out)?)?;
+    Ok(whole)
+}
+
+/// The mesh of the copies, with its marks turned round, one left out, and one more.
+fn mesh_turned(alloc: Global, left_out: Option<Mark>, more: Option<Mark>) -> Result<Mesh, Fail> {
+    let mut mesh = mesh_of(alloc, COPIES)?;
+    match plan_turned(alloc, &mesh.plan, left_out, more) {
+        Ok(plan) => {
+            mesh.plan = plan;
+            Ok(mesh)
+        }
+        Err(error) => Err(error.into()),
+    }
 }
 
 fn late(node: usize, number: u64) -> Option<Mark> {
@@ -56,8 +62,15 @@ fn late(node: usize, number: u64) -> Option<Mark> {
     })
 }
 
-/// Each copy wants a mark of its own of what it asked, and each mark of a call that was made wants
-/// a copy of its own.
+/// No call of the play is muted.
+const MUTED: Mark = Mark {
+    node: 2,
+    number: 2,
+    kind: MarkKind::Muted,
+};
+
+/// Each copy wants a mark of its own of what it asked, each mark of a call that was made wants a
+/// copy of its own, and no call that was heard has a mark that mutes it.
 #[test]
 fn copies_have_marks_and_marks_copies(rt: HostRuntime) -> Result<(), Fail> {
     let alloc = rt.alloc();
@@ -70,9 +83,12 @@ fn copies_have_marks_and_marks_copies(rt: HostRuntime) -> Result<(), Fail> {
         (None, late(1, 1), false),
         (None, late(2, 3), false),
         (None, late(2, 99), true),
+        (None, Some(MUTED), false),
     ] {
         let mesh = mesh_turned(alloc, left_out, more)?;
-        assert_eq!(rt; agrees(alloc, &mesh)?, wanted);
+        let told = agrees(alloc, &mesh);
+        drop(mesh);
+        assert!(rt; told? == wanted);
     }
     Ok(())
 }

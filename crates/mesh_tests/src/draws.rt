@@ -50,21 +50,16 @@ fn draw_line(alloc: Global, draws: &mut Draws) -> Result<String, OutOfMemory> {
     }
 }
 
-/// A script of sixty such lines.
-pub(crate) fn draw_script(alloc: Global, draws: &mut Draws) -> Result<String, OutOfMemory> {
-    let mut text = format!(in alloc; "raw 3\nwriter a\nwriter b\nwriter c\n")?;
-    for _ in 0..60 {
-        text.push_str(draw_line(alloc, draws)?.as_str())?;
-    }
-    Ok(text)
-}
-
-/// A script of those of sixty such lines that are no late copies.
-pub(crate) fn draw_piped_script(alloc: Global, draws: &mut Draws) -> Result<String, OutOfMemory> {
+/// A script of sixty such lines, or of those of them that are no late copies.
+pub(crate) fn draw_script(
+    alloc: Global,
+    draws: &mut Draws,
+    has_copies: bool,
+) -> Result<String, OutOfMemory> {
     let mut text = format!(in alloc; "raw 3\nwriter a\nwriter b\nwriter c\n")?;
     for _ in 0..60 {
         let line = draw_line(alloc, draws)?;
-        if !line.as_str().starts_with("late ") {
+        if has_copies || !line.as_str().starts_with("late ") {
             text.push_str(line.as_str())?;
         }
     }

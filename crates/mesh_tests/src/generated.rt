@@ -23,18 +23,14 @@ const EACH_CHANCE: &[u8] =
 log a add /d0/f2 3 2 2 1 644 gen gen\ntakeover b\nlog b add /d0/f3 3 3 3 1 644 gen gen\ndrop b 1 1\n\
 log b add /d0/f4 3 4 4 1 644 gen gen\nroll b\nlog b add /d0/f5 3 5 5 1 644 gen gen\nlog b add /d0/f6 3 6 6 1 644 gen gen\ntail s\n";
 
+/// Two short scripts, and the length and the end of a long one.
 #[test]
-fn short_scripts_are_generated(rt: HostRuntime) -> Result<(), Fail> {
+fn scripts_are_generated(rt: HostRuntime) -> Result<(), Fail> {
     assert!(rt; text(rt.alloc(), 1, 1, 3)?.as_slice() == ONE_EDIT);
     assert!(rt; text(rt.alloc(), 3_160_665, 6, 3)?.as_slice() == EACH_CHANCE);
-    Ok(())
-}
-
-#[test]
-fn a_long_script_is_generated(rt: HostRuntime) -> Result<(), Fail> {
-    let printed = text(rt.alloc(), 7, 10_000, 3)?;
-    assert!(rt; printed.len() == 473_802);
+    let long = text(rt.alloc(), 7, 10_000, 3)?;
+    assert!(rt; long.len() == 473_802);
     let end = b"\nlog b add /d99/f10000 3 10000 10000 1 644 gen gen\ntail s\n";
-    assert!(rt; printed.ends_with(end));
+    assert!(rt; long.ends_with(end));
     Ok(())
 }

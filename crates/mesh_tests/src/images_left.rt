@@ -5,44 +5,46 @@ use ns_store::txid_of;
 use std::alloc::Global;
 use std::test::Fail;
 
-const CHECKPOINTS: &str =
-    "names 1\nname a\nname s\ntakeover a\nlog a mkdir /a 1 755 u g\ntail s\ncheckpoint s\nroll a\ntail s\ncheckpoint s\n\
-log a mkdir /b 2 755 u g\nlog a mkdir /c 3 755 u g\ntail s\ncheckpoint s\n";
+/// Scripts, and the txids of the images that each of their actors leaves: the two newest that it
+/// saved, and none of a writer.
+const LEFT: &[(&str, &str)] = &[
+    (
+        "names 1\nname a\nname s\ntakeover a\nlog a mkdir /a 1 755 u g\ntail s\ncheckpoint s\nroll a\ntail s\ncheckpoint s\n\
+log a mkdir /b 2 755 u g\nlog a mkdir /c 3 755 u g\ntail s\ncheckpoint s\n",
+        "[][3, 5]",
+    ),
+    ("raw 3\nwriter a\nwriter b\ntakeover a\n", "[][]"),
+];
 
 /// The txids of the images on a disk.
-fn images_on(alloc: Global, mut disk: MemDisk) -> Result<Vec<u64>, DiskFail> {
+fn images_on(alloc: Global, disk: &mut MemDisk) -> Result<Vec<u64>, DiskFail> {
     let names = disk.list()?;
-    let txids = names
-        .iter()
-        .filter_map(|name| txid_of(name.as_bytes(), b""));
-    Ok(txids.collect(alloc)?)
+    let mut txids = Vec::new(alloc);
+    for name in names.iter() {
+        if let Some(txid) = txid_of(name.as_bytes(), b"") {
+            txids.push(txid)?;
+        }
+    }
+    Ok(txids)
 }
 
-/// The txids of the images of each actor of the text's play.
-fn txids_of(alloc: Global, text: &str) -> Result<Vec<Vec<u64>>, Fail> {
-    let mut images = Vec::new(alloc);
-    for disk in images_of(alloc, text.as_bytes())? {
-        let Ok(txids) = images_on(alloc, disk) else {
-            return Err("the disk fails".into());
-        };
-        images.push(txids)?;
+/// The txids of the images on each of the disks.
+fn tell_images(alloc: Global, disks: &mut [MemDisk]) -> Result<String, DiskFail> {
+    let mut told = String::new(alloc);
+    for disk in disks.iter_mut() {
+        let txids = images_on(alloc, disk)?;
+        write!(told, "{txids:?}")?;
     }
-    Ok(images)
+    Ok(told)
 }
 
 #[test]
 fn each_actor_leaves_its_newest_images(rt: HostRuntime) -> Result<(), Fail> {
-    let images = txids_of(rt.alloc(), CHECKPOINTS)?;
-    assert_eq!(rt; images.len(), 2);
-    assert!(rt; images[0].is_empty());
-    assert_eq!(rt; images[1].as_slice(), [3, 5].as_slice());
-    Ok(())
-}
-
-#[test]
-fn writers_leave_no_images(rt: HostRuntime) -> Result<(), Fail> {
-    let images = txids_of(rt.alloc(), "raw 3\nwriter a\nwriter b\ntakeover a\n")?;
-    assert_eq!(rt; images.len(), 2);
-    assert!(rt; images[0].is_empty() && images[1].is_empty());
+    for (script, wanted) in LEFT {
+        let mut disks = images_of(rt.alloc(), script.as_bytes())?;
+        let told = tell_images(rt.alloc(), &mut disks);
+        drop(disks);
+        assert!(rt; told?.as_str() == *wanted);
+    }
     Ok(())
 }

@@ -3,7 +3,7 @@
 //! the images of the actors, and how a standby boots over them.
 //!
 //! Tests of pipes: calls over a pipe with stale replies, cut lines and failing ends; a round's
-//! requests before its replies; and a session of tagged lines.
+//! requests before its replies; and sessions of tagged lines.
 //!
 //! Tests of what no text shows: values that are shared, generated scripts, a summary, words as
 //! bytes of the system, and a folder that isn't locked.
@@ -15,8 +15,6 @@ mod agreeing;
 mod boots;
 #[cfg(test)]
 mod copies;
-#[cfg(test)]
-mod drafted;
 #[cfg(test)]
 mod draws;
 #[cfg(test)]

@@ -1,6 +1,8 @@
-//! The epoch orders of known scripts, told as text.
+//! The epoch orders of known scripts and of a report, told as text.
 use crate::plays::{mesh_of, order_of};
 use journal_core::{OutOfMemory, Request};
+use mesh::Mesh;
+use report_judge::{Lists, Reading, read_report};
 use run_safety::{Event, Fate};
 use std::alloc::Global;
 use std::test::Fail;
@@ -45,7 +47,7 @@ fn action_of(event: &Event) -> Option<Action> {
 
 /// The events as text: of each run of events of one kind under one epoch the word, the epoch, and
 /// the nodes in order.
-pub(crate) fn text_of(alloc: Global, events: &[Event]) -> Result<String, OutOfMemory> {
+fn text_of(alloc: Global, events: &[Event]) -> Result<String, OutOfMemory> {
     let mut text = String::new(alloc);
     let mut before = ("", 0);
     for event in events {
@@ -62,7 +64,7 @@ pub(crate) fn text_of(alloc: Global, events: &[Event]) -> Result<String, OutOfMe
     Ok(text)
 }
 
-/// Scripts, each with its epoch order: what one owner asked stands in the order of its record,
+/// Scripts and a report, each with its epoch order: what one owner asked stands in the order of its record,
 /// writers stand epoch by epoch, kills and restarts stay after what moved their node, a late copy
 /// of a used serial has no place and one after a restart has one, and a proposal that lost stands
 /// before the one that won.
@@ -97,16 +99,45 @@ log a 0b\npurge a 4\nlog a 0c\nclose a\nlate a 1 99\n",
         "raw 3\nwriter a\nwriter b\ndrop a 1 2\ndrop a 2 2\ntakeover a\ndrop b 3 1\ntakeover b\n",
         "heard 1: 3 1 2 1 2 3 1 2 3",
     ),
+    (CROSSED, "heard 1: 1 2; heard 2: 1 2"),
 ];
+
+/// A report of two takeovers that cross: at node 1 the second one came after the first had proposed
+/// there, and at node 2 before the first had asked. No order of all lines fits both.
+const CROSSED: &str =
+    "nodes 2\nnode 1\na state -> state 0\na new 1 -> new none\nb state -> state 1\nb new 2 -> new none\n\
+node 2\nb state -> state 0\na state -> state 0\na new 1 -> new none\nb new 2 -> new none\n\
+actor a\n1 state -> state 0\n2 state -> state 0\n1 new 1 -> new none\n2 new 1 -> new none\n\
+actor b\n1 state -> state 1\n2 state -> state 0\n1 new 2 -> new none\n2 new 2 -> new none\nend\n";
+
+/// The mesh of a report, or of the play of a script.
+fn mesh_told(alloc: Global, text: &str) -> Result<Mesh, Fail> {
+    if !text.starts_with("nodes ") {
+        return mesh_of(alloc, text.as_bytes());
+    }
+    let Reading::Read(lists) = read_report(alloc, text.as_bytes())? else {
+        return Err("no report".into());
+    };
+    let Lists { mesh, ends } = lists;
+    drop(ends);
+    Ok(mesh)
+}
+
+/// The epoch order of a mesh, as text; empty where it doesn't agree.
+fn order_text(alloc: Global, mesh: &Mesh) -> Result<String, OutOfMemory> {
+    match order_of(alloc, mesh)? {
+        Some(events) => text_of(alloc, &events),
+        None => Ok(String::new(alloc)),
+    }
+}
 
 #[test]
 fn events_stand_in_the_order_of_the_epochs(rt: HostRuntime) -> Result<(), Fail> {
-    for (script, wanted) in ORDERS {
-        let mesh = mesh_of(rt.alloc(), script.as_bytes())?;
-        let Some(events) = order_of(rt.alloc(), &mesh)? else {
-            return Err("the lists don't agree".into());
-        };
-        assert_eq!(rt; text_of(rt.alloc(), &events)?.as_str(), *wanted);
+    for (text, wanted) in ORDERS {
+        let mesh = mesh_told(rt.alloc(), text)?;
+        let told = order_text(rt.alloc(), &mesh);
+        drop(mesh);
+        assert!(rt; told?.as_str() == *wanted, "{text}");
     }
     Ok(())
 }

@@ -3,6 +3,28 @@ use base_outside::{MemSink, MemSource};
 use journal_core::{Heard, OutOfMemory, Reply, Request};
 use pipe_seats::{LineRoom, NodePipe};
 use std::alloc::Global;
+use std::test::Fail;
+
+/// What the far end of a pipe says, the numbers of the reads and of the writes that fail, and the
+/// promise that is heard.
+type Case = (&'static str, &'static [u64], &'static [u64], Option<u64>);
+
+/// A reply is heard, stale ones are passed over, and bad replies and failing ends are silence.
+const CASES: &[Case] = &[
+    ("#7 1 state 3 .\n", &[], &[], Some(3)),
+    (
+        "#6 1 state 9 .\n#7 2 ok .\n#7 1 state 3 .\n",
+        &[],
+        &[],
+        Some(3),
+    ),
+    ("state 3\n", &[], &[], None),
+    ("#7 1 state 3 .#7 1 state 3 .\n", &[], &[], None),
+    ("#7 1 ok .\n", &[], &[], None),
+    ("#7 1 state 3", &[], &[], None),
+    ("#7 1 state 3 .\n", &[0], &[], None),
+    ("#7 1 state 3 .\n", &[], &[0], None),
+];
 
 /// A pipe of life 7 whose far end says these bytes, and the reads and writes that fail.
 fn pipe_of(
@@ -18,7 +40,7 @@ fn pipe_of(
     Ok(pipe)
 }
 
-/// What is heard of a state request over it: the promise, or none.
+/// What is heard of a state request over a pipe: the promise, or none.
 fn promise_of(alloc: Global, pipe: &mut NodePipe<MemSource, MemSink>) -> Option<u64> {
     let mut room = LineRoom::new(alloc);
     match pipe.call(alloc, &Request::State, &mut room) {
@@ -27,47 +49,21 @@ fn promise_of(alloc: Global, pipe: &mut NodePipe<MemSource, MemSink>) -> Option<
     }
 }
 
-/// The promise that is heard where the far end says these bytes.
-fn heard_of(alloc: Global, replies: &[u8]) -> Option<u64> {
-    match pipe_of(alloc, replies, &[], &[]) {
-        Ok(mut pipe) => promise_of(alloc, &mut pipe),
-        Err(_) => None,
+/// The promise that is heard over the pipe of a case, and whether the pipe is open then.
+fn hear(alloc: Global, case: &Case) -> Result<(Option<u64>, bool), OutOfMemory> {
+    let (replies, reads, writes, _) = *case;
+    let mut pipe = pipe_of(alloc, replies.as_bytes(), reads, writes)?;
+    let promise = promise_of(alloc, &mut pipe);
+    Ok((promise, pipe.is_open()))
+}
+
+#[test]
+fn only_replies_that_fit_are_heard(rt: HostRuntime) -> Result<(), Fail> {
+    for case in CASES {
+        let (promise, is_open) = hear(rt.alloc(), case)?;
+        let (_, reads, writes, wanted) = case;
+        assert!(rt; promise == *wanted);
+        assert!(rt; !is_open || (reads.is_empty() && writes.is_empty()));
     }
-}
-
-#[test]
-fn replies_are_heard(rt: HostRuntime) {
-    assert_eq!(rt; heard_of(rt.alloc(), b"#7 1 state 3 .\n"), Some(3));
-}
-
-#[test]
-fn stale_replies_are_passed_over(rt: HostRuntime) {
-    let replies = b"#6 1 state 9 .\n#7 2 ok .\n#7 1 state 3 .\n";
-    assert_eq!(rt; heard_of(rt.alloc(), replies), Some(3));
-}
-
-#[test]
-fn bad_replies_are_silence(rt: HostRuntime) {
-    assert_eq!(rt; heard_of(rt.alloc(), b"state 3\n"), None);
-    assert_eq!(rt;
-        heard_of(rt.alloc(), b"#7 1 state 3 .#7 1 state 3 .\n"),
-        None
-    );
-    assert_eq!(rt; heard_of(rt.alloc(), b"#7 1 ok .\n"), None);
-    assert_eq!(rt; heard_of(rt.alloc(), b"#7 1 state 3"), None);
-}
-
-#[test]
-fn failing_ends_are_silence(rt: HostRuntime) {
-    let alloc = rt.alloc();
-    let reply = b"#7 1 state 3 .\n";
-    let Ok(mut unread) = pipe_of(alloc, reply, &[0], &[]) else {
-        return;
-    };
-    let Ok(mut unwritten) = pipe_of(alloc, reply, &[], &[0]) else {
-        return;
-    };
-    assert_eq!(rt; promise_of(alloc, &mut unread), None);
-    assert_eq!(rt; promise_of(alloc, &mut unwritten), None);
-    assert!(rt; !unread.is_open() && !unwritten.is_open());
+    Ok(())
 }

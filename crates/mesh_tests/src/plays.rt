@@ -1,4 +1,6 @@
 //! The play of a script's text, and whether what it leaves agrees.
+ghost use Rattle.play_script.specs.Grammar.{IsScript};
+
 use base_disk::MemDisk;
 use journal_core::OutOfMemory;
 use journal_step::PlainNode;
@@ -6,20 +8,28 @@ use mesh::Mesh;
 use mesh_judge::{agrees, order_events};
 use play_actor::{PlayedOn, ScriptActor, plain_nodes, play_on};
 use play_model::{Played, scripts_are_playable};
-use play_script::{ReadScript, read_script, scripts_break_no_rule};
+use play_script::{ReadScript, Script, read_script};
 use run_safety::Event;
 use std::alloc::Global;
 use std::test::Fail;
 
+/// What the play of a script over plain nodes leaves, with its actors' images.
+fn play_plain(alloc: Global, script: &Script) -> Result<PlayedOn<PlainNode>, OutOfMemory>
+    requires { IsScript script.now }
+{
+    scripts_are_playable();
+    let nodes = plain_nodes(alloc, script.nodes())?;
+    play_on::<ScriptActor, PlainNode>(alloc, nodes, script)
+}
+
 /// What the play of the text's script leaves, with its actors' images.
 fn play_text_on(alloc: Global, text: &[u8]) -> Result<PlayedOn<PlainNode>, Fail> {
-    scripts_break_no_rule();
-    scripts_are_playable();
     let ReadScript::Script(script) = read_script(alloc, text) else {
         return Err("no script".into());
     };
-    let nodes = plain_nodes(alloc, script.nodes())?;
-    Ok(play_on::<ScriptActor, PlainNode>(alloc, nodes, &script)?)
+    let played = play_plain(alloc, &script);
+    drop(script);
+    Ok(played?)
 }
 
 /// What the play of the text's script leaves.

@@ -9,7 +9,7 @@ use play_calls::Seats;
 use play_model::{Played, scripts_are_playable};
 use play_pipes::run_piped_on;
 use play_script::{ReadScript, Script, ScriptLine, read_script};
-use play_threads::{Actors, Pass, act_alone, run_on};
+use play_threads::{Actors, FreePass, act_alone, run_on};
 use std::alloc::Global;
 use std::sync::Wait;
 use std::test::Fail;
@@ -30,54 +30,34 @@ impl Actors for TestedActors {
     }
 }
 
-fn run_script<R: Threads + Wait + Sync, G: Pass + Sync>(
+fn run_script<R: Threads + Wait + Sync>(
     rt: &R,
     alloc: Global,
     has_pipes: bool,
     script: &Script,
-    pass: &G,
 ) -> Result<Played<PlainNode>, OutOfMemory>
     requires { IsScript script.now }
 {
     scripts_are_playable();
     let nodes = plain_nodes(alloc, script.nodes())?;
     if has_pipes {
-        run_piped_on::<TestedActors, _, _, _>(rt, alloc, nodes, script, pass)
+        run_piped_on::<TestedActors, _, _, _>(rt, alloc, nodes, script, &FreePass)
     } else {
-        run_on::<TestedActors, _, _, _>(rt, alloc, nodes, script, pass)
+        run_on::<TestedActors, _, _, _>(rt, alloc, nodes, script, &FreePass)
     }
 }
 
-/// What the script with this text leaves, run through pipes or not.
-fn leave<R: Threads + Wait + Sync, G: Pass + Sync>(
+/// What a run of the script with this text leaves, through pipes or not.
+pub(crate) fn run_text<R: Threads + Wait + Sync>(
     rt: &R,
     alloc: Global,
     has_pipes: bool,
     text: &[u8],
-    pass: &G,
 ) -> Result<Played<PlainNode>, Fail> {
     let ReadScript::Script(script) = read_script(alloc, text) else {
-        return Err("it is no script".into());
+        return Err("no script".into());
     };
-    Ok(run_script(rt, alloc, has_pipes, &script, pass)?)
-}
-
-/// What a run of the script with this text leaves.
-pub(crate) fn run_text<R: Threads + Wait + Sync, G: Pass + Sync>(
-    rt: &R,
-    alloc: Global,
-    text: &[u8],
-    pass: &G,
-) -> Result<Played<PlainNode>, Fail> {
-    leave(rt, alloc, false, text, pass)
-}
-
-/// What a run of the script with this text leaves, through pipes.
-pub(crate) fn run_piped_text<R: Threads + Wait + Sync, G: Pass + Sync>(
-    rt: &R,
-    alloc: Global,
-    text: &[u8],
-    pass: &G,
-) -> Result<Played<PlainNode>, Fail> {
-    leave(rt, alloc, true, text, pass)
+    let played = run_script(rt, alloc, has_pipes, &script);
+    drop(script);
+    Ok(played?)
 }

@@ -1,8 +1,22 @@
-//! A session of tagged lines at a node in memory.
+//! Sessions of tagged lines at a node in memory.
 use base_outside::{MemSink, MemSource, OutOfMemory};
 use journal_step::PlainNode;
 use pipe_serve::serve_session;
 use std::alloc::Global;
+use std::test::Fail;
+
+/// Requests, and what is written where a fresh node is asked them: tagged ones are answered, and a
+/// request that another cuts is none.
+const SESSIONS: &[(&str, &str)] = &[
+    (
+        "#1 1 new 1 .\n#1 2 state .\n",
+        "#1 1 new none .\n#1 2 state 1 .\n",
+    ),
+    (
+        "#1 1 new 1 .\n#1 2 new#1 3 new 2 .\n",
+        "#1 1 new none .\nbad\n",
+    ),
+];
 
 /// What is written where a fresh node is asked these lines.
 fn answers_to(alloc: Global, requests: &[u8]) -> Result<Vec<u8>, OutOfMemory> {
@@ -14,18 +28,10 @@ fn answers_to(alloc: Global, requests: &[u8]) -> Result<Vec<u8>, OutOfMemory> {
 }
 
 #[test]
-fn tagged_requests_are_answered(rt: HostRuntime) {
-    let Ok(answers) = answers_to(rt.alloc(), b"#1 1 new 1 .\n#1 2 state .\n") else {
-        return;
-    };
-    let wanted = b"#1 1 new none .\n#1 2 state 1 .\n".as_slice();
-    assert!(rt; answers.as_slice() == wanted);
-}
-
-#[test]
-fn cut_requests_are_none(rt: HostRuntime) {
-    let Ok(answers) = answers_to(rt.alloc(), b"#1 1 new 1 .\n#1 2 new#1 3 new 2 .\n") else {
-        return;
-    };
-    assert!(rt; answers.as_slice() == b"#1 1 new none .\nbad\n".as_slice());
+fn tagged_requests_are_answered(rt: HostRuntime) -> Result<(), Fail> {
+    for (requests, wanted) in SESSIONS {
+        let answers = answers_to(rt.alloc(), requests.as_bytes())?;
+        assert!(rt; answers.as_slice() == wanted.as_bytes());
+    }
+    Ok(())
 }

@@ -1,7 +1,6 @@
-//! What is shared or copied is the same, and causes have their texts.
+//! What is shared or copied is the same.
 use base_words::{Bytes, Name, OutOfMemory};
-use journal_core::{Batch, BodyList, Refusal, SegmentInfo, SegmentLine, SegmentLines, ToldSegment};
-use journal_text::print_cause;
+use journal_core::{Batch, BodyList, SegmentInfo, SegmentLine, SegmentLines, ToldSegment};
 use std::alloc::Global;
 use std::test::Fail;
 
@@ -59,20 +58,5 @@ fn what_is_shared_is_the_same(rt: HostRuntime) -> Result<(), Fail> {
     let list = three(rt.alloc())?;
     assert!(rt; list.len() == 3);
     assert!(rt; Batch::new(3, list).share(rt.alloc())?.bodies().len() == 3);
-    Ok(())
-}
-
-// The texts of two causes, with a space between them.
-fn causes(alloc: Global) -> Result<Vec<u8>, OutOfMemory> {
-    let mut text = Vec::new(alloc);
-    print_cause(&Refusal::EpochRefused { promised: 2 }, &mut text)?;
-    text.push(b' ')?;
-    print_cause(&Refusal::Down, &mut text)?;
-    Ok(text)
-}
-
-#[test]
-fn causes_are_printed(rt: HostRuntime) -> Result<(), Fail> {
-    assert!(rt; causes(rt.alloc())?.as_slice() == b"EpochRefused:2 Down".as_slice());
     Ok(())
 }

@@ -1,9 +1,8 @@
 //! Lists of runs by threads agree, and fresh nodes that take their epoch orders come to the states
 //! of their nodes.
-use crate::draws::{Draws, draw_piped_script, draw_script};
+use crate::draws::{Draws, draw_script};
 use crate::replayed::is_replayed;
-use crate::running::{run_piped_text, run_text};
-use play_threads::FreePass;
+use crate::running::run_text;
 use std::alloc::Global;
 use std::process::Abort;
 use std::sync::Wait;
@@ -16,20 +15,13 @@ const ALL_LINES: &str =
 const COMPETING_NAMES: &str =
     "names 3\nname a\nname b\nname s\ntakeover a\nlog a mkdir /a 1 755 u g\ntakeover b\nlog b mkdir /b 2 755 u g\ntail s\ntail a\n";
 
-fn is_run<R: Threads + Wait + Sync + Abort>(rt: &R, alloc: Global, text: &str) -> Result<(), Fail> {
-    let ran = run_text(rt, alloc, text.as_bytes(), &FreePass)?;
-    let replayed = is_replayed(alloc, &ran);
-    drop(ran);
-    assert!(rt; replayed?, "{text}");
-    Ok(())
-}
-
-fn is_piped<R: Threads + Wait + Sync + Abort>(
+fn is_run<R: Threads + Wait + Sync + Abort>(
     rt: &R,
     alloc: Global,
+    has_pipes: bool,
     text: &str,
 ) -> Result<(), Fail> {
-    let ran = run_piped_text(rt, alloc, text.as_bytes(), &FreePass)?;
+    let ran = run_text(rt, alloc, has_pipes, text.as_bytes())?;
     let replayed = is_replayed(alloc, &ran);
     drop(ran);
     assert!(rt; replayed?, "{text}");
@@ -39,28 +31,20 @@ fn is_piped<R: Threads + Wait + Sync + Abort>(
 #[test]
 fn lists_of_runs_agree(rt: HostRuntime) -> Result<(), Fail> {
     for _ in 0..10 {
-        is_run(&rt, rt.alloc(), ALL_LINES)?;
-        is_run(&rt, rt.alloc(), COMPETING_NAMES)?;
+        is_run(&rt, rt.alloc(), false, ALL_LINES)?;
+        is_run(&rt, rt.alloc(), false, COMPETING_NAMES)?;
     }
     Ok(())
 }
 
+/// Fifty scripts are run, and fifty without late copies through pipes.
 #[test]
 fn lists_of_random_runs_agree(rt: HostRuntime) -> Result<(), Fail> {
     let mut draws = Draws::new(1);
-    for _ in 0..50 {
-        let text = draw_script(rt.alloc(), &mut draws)?;
-        is_run(&rt, rt.alloc(), text.as_str())?;
-    }
-    Ok(())
-}
-
-#[test]
-fn lists_of_random_runs_through_pipes_agree(rt: HostRuntime) -> Result<(), Fail> {
-    let mut draws = Draws::new(2);
-    for _ in 0..50 {
-        let text = draw_piped_script(rt.alloc(), &mut draws)?;
-        is_piped(&rt, rt.alloc(), text.as_str())?;
+    for number in 0..100 {
+        let has_pipes = number >= 50;
+        let text = draw_script(rt.alloc(), &mut draws, !has_pipes)?;
+        is_run(&rt, rt.alloc(), has_pipes, text.as_str())?;
     }
     Ok(())
 }

@@ -1,27 +1,22 @@
 //! A disk over a real folder.
 use crate::opened::Opened;
-use base_disk::Disk;
+use base_disk::{Disk, DiskFail};
 use base_outside::FolderDisk;
 use disk_files::{OpenedFiles, open_files};
 use std::alloc::{AllocError, Global};
 use std::fs;
 use std::fs::Permissions;
 use std::os::unix::fs::{PermissionsExt, symlink};
-use std::process::Abort;
 use std::test::Fail;
 
 // A file's bytes are these, of which there are at most 63; none where it is absent.
-fn reads_as<R: Abort + AllocGlobal>(
-    rt: &R,
-    disk: &mut FolderDisk<HostRuntime>,
-    name: &str,
-    want: &[u8],
-) -> Result<(), Fail> {
-    let mut into = vec![in rt.alloc(); 0u8; 64]?;
+fn reads_as(disk: &mut FolderDisk<HostRuntime>, name: &str, want: &[u8]) -> Result<bool, DiskFail> {
+    let mut into = [0u8; 64];
     let count = disk.read(name, 0, &mut into)?;
-    into.truncate(count);
-    assert!(rt; into.as_slice() == want, "of {name}");
-    Ok(())
+    match into.get(..count) {
+        Some(bytes) => Ok(bytes == want),
+        None => Ok(false),
+    }
 }
 
 // The names, with a space after each.
@@ -35,69 +30,47 @@ fn joined(alloc: Global, names: &[String]) -> Result<String, AllocError> {
 }
 
 // The names of all files are these, with a space after each.
-fn lists<R: Abort + AllocGlobal>(
-    rt: &R,
-    disk: &mut FolderDisk<HostRuntime>,
-    want: &str,
-) -> Result<(), Fail> {
+fn lists(alloc: Global, disk: &mut FolderDisk<HostRuntime>, want: &str) -> Result<bool, DiskFail> {
     let names = disk.list()?;
-    let told = joined(rt.alloc(), &names)?;
-    assert!(rt; told.as_str() == want);
-    Ok(())
+    let told = joined(alloc, &names);
+    drop(names);
+    Ok(told?.as_str() == want)
 }
 
 // There is no file of that name.
-fn is_absent<R: Abort + AllocGlobal>(
-    rt: &R,
-    disk: &mut FolderDisk<HostRuntime>,
-    name: &str,
-) -> Result<(), Fail> {
-    assert_eq!(rt; disk.length(name)?, None, "of {name}");
-    reads_as(rt, disk, name, b"")
+fn is_absent(disk: &mut FolderDisk<HostRuntime>, name: &str) -> Result<bool, DiskFail> {
+    let has_length = disk.length(name)?.is_some();
+    Ok(reads_as(disk, name, b"")? && !has_length)
 }
 
 // A file is written in parts and renamed, and cut off.
-fn keeps_a_file<R: Abort + AllocGlobal>(
-    rt: &R,
-    disk: &mut FolderDisk<HostRuntime>,
-) -> Result<(), Fail> {
+fn keeps_a_file(alloc: Global, disk: &mut FolderDisk<HostRuntime>) -> Result<bool, DiskFail> {
     disk.write_at("b.tmp", 0, b"journal")?;
     disk.write_at("b.tmp", 5, b"ey")?;
     disk.write_at("b.tmp", 7, b"..")?;
     disk.sync("b.tmp")?;
     disk.rename("b.tmp", "b")?;
     disk.write_at("a", 0, b"")?;
-    reads_as(rt, disk, "b", b"journey..")?;
+    let is_whole = reads_as(disk, "b", b"journey..")?;
     disk.cut("b", 4)?;
-    reads_as(rt, disk, "b", b"jour")?;
-    lists(rt, disk, "a b ")
+    let is_cut = reads_as(disk, "b", b"jour")?;
+    Ok(lists(alloc, disk, "a b ")? && is_whole && is_cut)
 }
 
-// What isn't there isn't written on from, and files are kept in a subfolder.
-fn keeps_files_below<R: Abort + AllocGlobal>(
-    rt: &R,
-    disk: &mut FolderDisk<HostRuntime>,
-) -> Result<(), Fail> {
-    assert_eq!(rt; disk.length("b")?, Some(4));
-    assert!(rt; disk.write_at("b", 5, b"!").is_err());
-    assert!(rt; disk.write_at("c", 1, b"!").is_err());
+// What isn't there isn't written on from.
+fn writes_no_gap(disk: &mut FolderDisk<HostRuntime>) -> Result<bool, DiskFail> {
+    let has_length = matches!(disk.length("b")?, Some(4));
+    let refuses = disk.write_at("b", 5, b"!").is_err() && disk.write_at("c", 1, b"!").is_err();
+    Ok(has_length && refuses)
+}
+
+// Files are kept in a subfolder.
+fn keeps_files_below(alloc: Global, disk: &mut FolderDisk<HostRuntime>) -> Result<bool, DiskFail> {
     disk.rename("b", "paxos/7")?;
     disk.write_at("paxos/6", 0, b"6")?;
     disk.sync("paxos/6")?;
-    lists(rt, disk, "a paxos/6 paxos/7 ")?;
-    reads_as(rt, disk, "paxos/7", b"jour")
-}
-
-// Two disks have the same folder.
-fn keeps_files<R: Abort + AllocGlobal>(
-    rt: &R,
-    disk: &mut FolderDisk<HostRuntime>,
-    again: &mut FolderDisk<HostRuntime>,
-) -> Result<(), Fail> {
-    keeps_a_file(rt, disk)?;
-    keeps_files_below(rt, disk)?;
-    again.remove("paxos/7")?;
-    lists(rt, disk, "a paxos/6 ")
+    let is_moved = reads_as(disk, "paxos/7", b"jour")?;
+    Ok(lists(alloc, disk, "a paxos/6 paxos/7 ")? && is_moved)
 }
 
 const FOLDER: &str = "folder_disk_test";
@@ -108,50 +81,45 @@ fn files_of_a_folder_are_kept(rt: HostRuntime) -> Result<(), Fail> {
     fs::create_dir(&rt, FOLDER)?;
     let mut first = Opened::new(&rt, FOLDER)?;
     let mut again = Opened::new(&rt, FOLDER)?;
-    keeps_files(&rt, &mut first.disk, &mut again.disk)?;
+    assert!(rt; keeps_a_file(rt.alloc(), &mut first.disk)?);
+    assert!(rt; writes_no_gap(&mut first.disk)?);
+    assert!(rt; keeps_files_below(rt.alloc(), &mut first.disk)?);
+    // Two disks have the same folder.
+    again.disk.remove("paxos/7")?;
+    assert!(rt; lists(rt.alloc(), &mut first.disk, "a paxos/6 ")?);
     fs::remove_dir_all(&rt, FOLDER)?;
     Ok(())
 }
 
 const NO_FILES: &[&str] = &["", "no such file", "no such folder/file", "..", "/"];
 
-fn are_absent<R: Abort + AllocGlobal>(
-    rt: &R,
-    disk: &mut FolderDisk<HostRuntime>,
-    names: &[&str],
-) -> Result<(), Fail> {
-    for name in names {
-        is_absent(rt, disk, name)?;
-    }
-    Ok(())
-}
-
 #[test]
 fn what_is_no_file_is_absent(rt: HostRuntime) -> Result<(), Fail> {
     let long = "n".repeat(rt.alloc(), 300)?;
     let mut here = Opened::new(&rt, ".")?;
-    are_absent(&rt, &mut here.disk, NO_FILES)?;
-    is_absent(&rt, &mut here.disk, long.as_str())
+    for name in NO_FILES {
+        assert!(rt; is_absent(&mut here.disk, name)?, "{name}");
+    }
+    assert!(rt; is_absent(&mut here.disk, long.as_str())?);
+    Ok(())
 }
 
-fn takes_nothing<R: Abort + AllocGlobal>(
-    rt: &R,
-    disk: &mut FolderDisk<HostRuntime>,
-) -> Result<(), Fail> {
-    assert!(rt; disk.write_at("a", 0, b"1").is_err());
-    assert!(rt; disk.write_at("paxos/1", 0, b"1").is_err());
-    assert!(rt; disk.rename("a", "b").is_err());
-    assert!(rt; disk.remove("a").is_err());
-    assert!(rt; disk.cut("a", 0).is_err());
-    assert!(rt; disk.sync("a").is_err());
-    assert!(rt; disk.list().is_err());
-    is_absent(rt, disk, "a")
+fn takes_nothing(disk: &mut FolderDisk<HostRuntime>) -> bool {
+    disk.write_at("a", 0, b"1").is_err()
+        && disk.write_at("paxos/1", 0, b"1").is_err()
+        && disk.rename("a", "b").is_err()
+        && disk.remove("a").is_err()
+        && disk.cut("a", 0).is_err()
+        && disk.sync("a").is_err()
+        && disk.list().is_err()
 }
 
 #[test]
 fn an_absent_folder_takes_nothing(rt: HostRuntime) -> Result<(), Fail> {
     let mut absent = Opened::new(&rt, "folder_disk_absent")?;
-    takes_nothing(&rt, &mut absent.disk)
+    assert!(rt; takes_nothing(&mut absent.disk));
+    assert!(rt; is_absent(&mut absent.disk, "a")?);
+    Ok(())
 }
 
 const FOREIGN: &str = "foreign_files_test";
@@ -169,10 +137,10 @@ fn make_foreign(rt: &HostRuntime) -> Result<(), Fail> {
     Ok(())
 }
 
-fn opens_empty(rt: &impl Abort, alloc: Global, disk: &mut FolderDisk<HostRuntime>) {
+fn opens_empty(alloc: Global, disk: &mut FolderDisk<HostRuntime>) -> bool {
     match open_files(alloc, disk) {
-        OpenedFiles::Files(files) => assert_eq!(rt; files.table.as_slice().len(), 0),
-        _ => panic!(rt; "the folder isn't opened"),
+        OpenedFiles::Files(files) => files.table.as_slice().is_empty(),
+        _ => false,
     }
 }
 
@@ -181,9 +149,10 @@ fn a_folder_with_foreign_files_opens(rt: HostRuntime) -> Result<(), Fail> {
     let _ = fs::remove_dir_all(&rt, FOREIGN);
     make_foreign(&rt)?;
     let mut foreign = Opened::new(&rt, FOREIGN)?;
-    opens_empty(&rt, rt.alloc(), &mut foreign.disk);
+    assert!(rt; opens_empty(rt.alloc(), &mut foreign.disk));
+    drop(foreign);
     let circle = fs::read_link(&rt, "foreign_files_test/circle")?;
-    assert_eq!(rt; circle.as_str(), "circle");
+    assert!(rt; circle.as_str() == "circle");
     assert!(rt; fs::symlink_metadata(&rt, "foreign_files_test/notes")?.is_file());
     fs::remove_dir_all(&rt, FOREIGN)?;
     Ok(())

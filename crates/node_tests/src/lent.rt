@@ -14,9 +14,9 @@ fn stored_length<D: AnyDisk + Drop>(mut disk: D) -> Result<Option<u64>, DiskFail
 #[test]
 fn a_lent_disk_is_the_disk(rt: HostRuntime) -> Result<(), Fail> {
     let mut disk = UntoldDisk::new(MemDisk::new(rt.alloc()));
-    assert_eq!(rt; stored_length(&mut disk)?, Some(4));
+    assert!(rt; matches!(stored_length(&mut disk)?, Some(4)));
     let mut into = [0; 4];
-    assert_eq!(rt; disk.read("a", 0, &mut into)?, 4);
-    assert_eq!(rt; into.as_slice(), b"abcd".as_slice());
+    assert!(rt; disk.read("a", 0, &mut into)? == 4);
+    assert!(rt; into.as_slice() == b"abcd".as_slice());
     Ok(())
 }

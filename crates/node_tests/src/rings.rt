@@ -42,7 +42,7 @@ const RUNS: &[(u64, u64, usize)] = &[
 
 fn runs_so(rt: &impl Abort, cache: &EditCache, txid: u64, length: usize) {
     match cache.slice_from(txid) {
-        Some(slice) => assert_eq!(rt; slice.len(), length, "from {txid}"),
+        Some(slice) => assert!(rt; slice.len() == length, "from {txid}"),
         None => panic!(rt; "{txid} is held"),
     }
 }

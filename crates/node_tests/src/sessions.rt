@@ -72,6 +72,6 @@ fn each_line_is_answered_before_the_next_is_read(rt: HostRuntime) {
         answered: &answered,
     };
     let served = serve(rt.alloc(), &mut node, &mut source, &mut sink);
-    assert_eq!(rt; served, Served::Done);
-    assert_eq!(rt; answered.get(), 3);
+    assert!(rt; matches!(served, Served::Done));
+    assert!(rt; answered.get() == 3);
 }
