@@ -9,7 +9,7 @@ use std::alloc::{AllocError, AllocFailed};
 use thiserror::Error;
 
 /// Why a call of a disk wasn't done, or not all of it.
-#[derive(Clone, Copy, Debug, PartialEq, Eq, Error)]
+#[derive(Clone, Copy, Debug, Error)]
 pub enum DiskFail {
     /// The disk failed, or a condition of the call isn't met on a disk that doesn't tell its bytes.
     #[error("the disk failed")]
@@ -36,7 +36,7 @@ impl<T: Drop> From<AllocFailed<T>> for DiskFail {
 }
 
 /// What a crash brings back of the bytes that weren't synced.
-#[derive(Clone, Copy, Debug, PartialEq, Eq)]
+#[derive(Clone, Copy, Debug)]
 pub enum Choice {
     /// As they were at the file's last sync. A file that was never synced is absent.
     Old,

@@ -8,7 +8,7 @@ use std::error::Error;
 use std::fmt;
 
 /// A read, a write or a flush failed. Its source or sink counted it.
-#[derive(Clone, Copy, Debug, PartialEq, Eq)]
+#[derive(Clone, Copy, Debug)]
 pub struct Failed;
 
 impl fmt::Display for Failed {

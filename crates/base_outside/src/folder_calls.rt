@@ -6,7 +6,7 @@ ghost use Rattle.base_outside.specs.Folder.{Names, AreStored};
 use base_disk::DiskFail;
 
 /// What stands under a path.
-#[derive(Clone, Copy, Debug, PartialEq, Eq)]
+#[derive(Clone, Copy, PartialEq, Eq)]
 pub enum Found {
     /// Nothing.
     Absent,

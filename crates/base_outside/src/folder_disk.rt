@@ -70,7 +70,7 @@ where
 }
 
 /// Why a folder wasn't locked.
-#[derive(Clone, Copy, Debug, PartialEq, Eq)]
+#[derive(Clone, Copy)]
 pub enum LockFail {
     /// Another has the lock.
     Taken,

@@ -65,7 +65,7 @@ impl Source for NoFaultSource {
 }
 
 /// A sink that takes every byte, keeps none and never fails.
-#[derive(Clone, Copy, Debug, Default)]
+#[derive(Clone, Copy, Default)]
 pub struct NoFaultSink;
 
 impl NoFaultSink {

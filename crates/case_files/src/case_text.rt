@@ -2,7 +2,6 @@
 use anyhow::Context;
 
 /// A line of a case.
-#[derive(Drop)]
 pub struct CaseLine {
     /// Its number in its file, from 1 on.
     pub number: usize,
@@ -10,8 +9,14 @@ pub struct CaseLine {
     pub text: String,
 }
 
+impl Drop for CaseLine {
+    fn drop(self) {
+        let CaseLine { number: _, text } = self;
+        drop(text);
+    }
+}
+
 /// A case: what stands from its title to the next empty line.
-#[derive(Drop)]
 pub struct CaseText {
     /// The name of its file.
     pub file: String,
@@ -19,6 +24,15 @@ pub struct CaseText {
     pub title: String,
     /// The lines after the first, without remarks. None is empty.
     pub lines: Vec<CaseLine>,
+}
+
+impl Drop for CaseText {
+    fn drop(self) {
+        let CaseText { file, title, lines } = self;
+        drop(file);
+        drop(title);
+        drop(lines);
+    }
 }
 
 impl CaseText {

@@ -1,7 +1,7 @@
 //! The tools that write what they make of a file.
 
 /// What is told of a segment's file.
-#[derive(Clone, Copy, Debug, PartialEq, Eq)]
+#[derive(Clone, Copy)]
 pub enum SegmentTool {
     /// A line for each edit.
     List,
@@ -12,7 +12,7 @@ pub enum SegmentTool {
 }
 
 /// What is told of an image.
-#[derive(Clone, Copy, Debug, PartialEq, Eq)]
+#[derive(Clone, Copy)]
 pub enum ImageTool {
     /// A line of columns for each inode.
     Delimited,

@@ -3,7 +3,7 @@ ghost use Rattle.std.specs.Prelude.{◌≡◌};
 ghost use Rattle.disk_files.specs.Durable.{number_name};
 
 /// A number of a node that has a file of its own.
-#[derive(Clone, Copy, Debug, PartialEq, Eq)]
+#[derive(Clone, Copy)]
 pub enum NodeNumber {
     /// The greatest epoch that it promised.
     Promised,

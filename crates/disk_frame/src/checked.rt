@@ -2,7 +2,7 @@
 use crate::frame_cause::FrameCause;
 
 /// What stands at one place of a segment's bytes.
-#[derive(Clone, Copy, Debug, PartialEq, Eq)]
+#[derive(Clone, Copy)]
 pub enum Checked {
     /// No frame: the bytes end here, or the byte isn't a seal's.
     NoFrame,

@@ -10,7 +10,7 @@ pub const HEADER_LENGTH: usize = 24;
 
 /// What the header of a segment file tells: the first txid of the segment, and the epoch that wrote
 /// or accepted it. In a file both are from 1 to 2^62.
-#[derive(Clone, Copy, Debug, PartialEq, Eq)]
+#[derive(Clone, Copy)]
 pub struct Header {
     pub start: u64,
     pub epoch: u64,

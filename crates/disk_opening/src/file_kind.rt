@@ -1,7 +1,7 @@
 //! The kinds of a segment's files.
 
 /// What a file of a segment is, by its name.
-#[derive(Clone, Copy, Debug, PartialEq, Eq)]
+#[derive(Clone, Copy)]
 pub enum FileKind {
     /// The segment in progress.
     InProgress,

@@ -1,4 +1,4 @@
 //! A text of no edit.
 /// What is wrong with a text: it is that of no edit.
-#[derive(Clone, Copy, Debug)]
+#[derive(Clone, Copy)]
 pub struct BadText;

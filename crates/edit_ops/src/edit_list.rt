@@ -7,9 +7,15 @@ use std::alloc::Global;
 use std::marker::Model;
 
 /// A list of edits, as those of one line of a script.
-#[derive(Drop)]
 pub struct EditList {
     items: Vec<Edit>,
+}
+
+impl Drop for EditList {
+    fn drop(self) {
+        let EditList { items } = self;
+        drop(items);
+    }
 }
 
 impl Model for EditList {

@@ -5,7 +5,7 @@ ghost use Rattle.edit_ops.specs.declared.field_fault.ReadError.TheVariants.{Memo
 use std::alloc::{AllocError, AllocFailed};
 
 /// What is wrong with a field, told from the bytes that are left where it begins.
-#[derive(Clone, Copy, Debug)]
+#[derive(Clone, Copy)]
 pub enum FieldFault {
     /// The bytes end inside the field: so many more would hold it.
     Short { missing: usize },
@@ -15,7 +15,7 @@ pub enum FieldFault {
 
 /// Why a field could not be read: memory was wanted and not there, or the fault of what was to be
 /// read.
-#[derive(Debug, Drop)]
+#[derive(Drop)]
 pub enum ReadError<F> {
     Memory,
     Fault(F),

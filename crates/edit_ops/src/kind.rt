@@ -4,7 +4,7 @@ ghost use Rattle.edit_ops.specs.Kinds.{code, is_mark};
 ghost use Rattle.edit_ops.specs.Words.{verb, name};
 
 /// What an edit does. Each kind has a code, the first byte of its record.
-#[derive(Clone, Copy, Debug)]
+#[derive(Clone, Copy)]
 pub enum OpKind {
     /// Opens a new file for writing.
     Add,

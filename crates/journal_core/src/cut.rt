@@ -2,7 +2,7 @@
 
 /// What stands of an append that was written whole and not closed: nothing, all of it, or all of it
 /// after a byte that says so.
-#[derive(Clone, Copy, Debug, PartialEq, Eq)]
+#[derive(Clone, Copy, PartialEq, Eq)]
 pub enum Cut {
     /// The bytes that stood there before.
     Old,

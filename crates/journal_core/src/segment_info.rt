@@ -1,7 +1,7 @@
 //! The state of a segment, without its edits.
 
 /// A segment's first and last txid, the epoch of its header, and whether it is final or accepted.
-#[derive(Clone, Copy, Debug, PartialEq, Eq)]
+#[derive(Clone, Copy, PartialEq, Eq)]
 pub struct SegmentInfo {
     pub start: u64,
     pub end: u64,

@@ -8,7 +8,7 @@ use std::marker::Model;
 
 /// A segment that holds an edit: its first and last txid, whether it is final, and its header
 /// epoch.
-#[derive(Clone, Copy, Debug, PartialEq, Eq)]
+#[derive(Clone, Copy, PartialEq, Eq)]
 pub struct SegmentLine {
     pub start: u64,
     pub end: u64,

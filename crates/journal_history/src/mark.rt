@@ -7,7 +7,7 @@ use std::alloc::Global;
 use std::marker::Model;
 
 /// What becomes of a marked call.
-#[derive(Clone, Copy, Debug, PartialEq, Eq)]
+#[derive(Clone, Copy, PartialEq, Eq)]
 pub enum MarkKind {
     /// It isn't delivered.
     Dropped,
@@ -18,7 +18,7 @@ pub enum MarkKind {
 }
 
 /// An actor's call to a node, by its number from 1, and what becomes of it.
-#[derive(Clone, Copy, Debug, PartialEq, Eq)]
+#[derive(Clone, Copy, PartialEq, Eq)]
 pub struct Mark {
     pub node: usize,
     pub number: u64,

@@ -2,7 +2,7 @@
 use journal_core::Cut;
 
 /// How far a stopped request gets.
-#[derive(Clone, Copy, Debug, PartialEq, Eq)]
+#[derive(Clone, Copy, PartialEq, Eq)]
 pub enum Stop {
     /// Its first `keep` durable effects are done.
     Effects { keep: u64 },

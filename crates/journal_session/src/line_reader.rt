@@ -24,7 +24,6 @@ const PIECE: usize = 65_536;
 
 /// Takes lines from what was read of a source. Contracts see the bytes that were read and not
 /// taken, how many were taken, and the line that was taken last.
-#[derive(Drop)]
 pub struct LineReader {
     // from `at` on it has the bytes that weren't taken, and from `start` to `end` the line that was
     // taken last
@@ -34,6 +33,21 @@ pub struct LineReader {
     at: usize,
     taken: usize,
     piece: Vec<u8>,
+}
+
+impl Drop for LineReader {
+    fn drop(self) {
+        let LineReader {
+            buffer,
+            start: _,
+            end: _,
+            at: _,
+            taken: _,
+            piece,
+        } = self;
+        drop(buffer);
+        drop(piece);
+    }
 }
 
 impl Model for LineReader {

@@ -1,7 +1,7 @@
 //! How a session at a node ends.
 
 /// How a session at a node ends.
-#[derive(Clone, Copy, Debug, PartialEq, Eq)]
+#[derive(Clone, Copy)]
 pub enum Served {
     /// Each line was answered, and the source is at its end.
     Done,

@@ -3,7 +3,7 @@ use crate::durable_effect::DurableEffect;
 use journal_core::Refusal;
 
 /// A refusal, or the durable effects after the front, in order.
-#[derive(Clone, Copy, Debug, PartialEq, Eq)]
+#[derive(Clone, Copy)]
 pub enum Decision {
     /// Refused, with no effect.
     Refused(Refusal),

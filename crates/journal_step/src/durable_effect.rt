@@ -6,7 +6,7 @@ use journal_core::SegmentInfo;
 
 /// One durable effect of a request, with what its calls of a disk need to know of the segments. The
 /// batch stands in the request.
-#[derive(Clone, Copy, Debug, PartialEq, Eq)]
+#[derive(Clone, Copy)]
 pub enum DurableEffect {
     /// Store the promised epoch.
     Promise {

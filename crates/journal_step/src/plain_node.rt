@@ -13,9 +13,15 @@ use std::alloc::Global;
 use std::marker::Model;
 
 /// A node in memory. Contracts see it as its state.
-#[derive(Drop)]
 pub struct PlainNode {
     state: NodeState,
+}
+
+impl Drop for PlainNode {
+    fn drop(self) {
+        let PlainNode { state } = self;
+        drop(state);
+    }
 }
 
 impl Model for PlainNode {

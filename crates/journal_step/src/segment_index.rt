@@ -11,7 +11,7 @@ use journal_core::SegmentInfo;
 /// A segment as an index has it: its state, whether it holds an edit, and the place of the next
 /// frame in its file, in bytes. The place is 2^62 where no frame can be appended, and 0 where the
 /// segment has no file.
-#[derive(Clone, Copy, Debug, PartialEq, Eq)]
+#[derive(Clone, Copy)]
 pub struct IndexedSegment {
     pub info: SegmentInfo,
     pub has_edit: bool,

@@ -1,7 +1,7 @@
 //! The first word of a request's text.
 
 /// The first word of a request's text, which says the kind of request.
-#[derive(Clone, Copy, Debug, PartialEq, Eq)]
+#[derive(Clone, Copy)]
 pub enum RequestWord {
     State,
     NewEpoch,

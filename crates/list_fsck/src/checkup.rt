@@ -1,7 +1,7 @@
 //! What came of a check.
 
 /// What came of a check of a folder.
-#[derive(Clone, Copy, Debug, PartialEq, Eq)]
+#[derive(Clone, Copy)]
 pub enum Checkup {
     /// The whole text was written; so many of its lines tell a finding.
     Found { findings: u64 },

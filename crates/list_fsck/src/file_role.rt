@@ -5,7 +5,7 @@ ghost use Rattle.list_fsck.specs.Roles.{end_after};
 use disk_files::NodeNumber;
 
 /// What a file of a folder is, by its name.
-#[derive(Clone, Copy, Debug, PartialEq, Eq)]
+#[derive(Clone, Copy)]
 pub enum FileRole {
     /// It holds a number of the node.
     Number(NodeNumber),

@@ -2,7 +2,7 @@
 use crate::rule::Rule;
 
 /// The first rule that a file breaks, and the two numbers that are told of it.
-#[derive(Clone, Copy, Debug, PartialEq, Eq)]
+#[derive(Clone, Copy)]
 pub struct Finding {
     pub rule: Rule,
     pub first: u64,

@@ -3,7 +3,7 @@ ghost use Rattle.std.specs.Prelude.{◌≡◌};
 ghost use Rattle.list_fsck.specs.Rules.{number_of};
 
 /// A rule that the files of a folder keep, in the order in which they are tried.
-#[derive(Clone, Copy, Debug, PartialEq, Eq)]
+#[derive(Clone, Copy)]
 pub enum Rule {
     /// The name is that of a file of a node or of an image.
     KnownName,

@@ -6,7 +6,7 @@ use disk_frame::{HEADER_LENGTH, Header, Scan, read_header, scan_window};
 use std::alloc::Global;
 
 /// What the bytes of a segment's file turn out to be.
-#[derive(Clone, Copy, Debug, PartialEq, Eq)]
+#[derive(Clone, Copy)]
 pub enum SegmentBytes {
     /// They have no header, at 0, or the frame whose seal is at this place is bad.
     Bad { place: u64 },

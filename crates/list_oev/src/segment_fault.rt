@@ -7,7 +7,7 @@ use crate::segment_listing::SegmentCause;
 use std::alloc::{AllocError, AllocFailed};
 
 /// Why the next edit of a file can't be told.
-#[derive(Debug, Drop)]
+#[derive(Drop)]
 pub enum SegmentFault {
     Memory,
     /// The bytes are damaged at this place.

@@ -1,7 +1,7 @@
 //! The answers to a question on the bytes of a file.
 
 /// What is wrong with the bytes of a segment's file.
-#[derive(Clone, Copy, Debug, PartialEq, Eq)]
+#[derive(Clone, Copy, Debug)]
 pub enum SegmentCause {
     /// The file doesn't begin with a segment's header.
     Header,

@@ -1,7 +1,7 @@
 //! The answers to a question on the bytes of a file.
 
 /// What is wrong with the bytes of an image. The first fault from the left counts.
-#[derive(Clone, Copy, Debug, PartialEq, Eq)]
+#[derive(Clone, Copy, Debug)]
 pub enum ImageByteCause {
     /// The bytes end inside a field.
     Short,

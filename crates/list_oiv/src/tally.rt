@@ -13,7 +13,7 @@ use ns_tree::{Inode, Row};
 use std::alloc::Global;
 
 /// How many files there are in each class of sizes, and what there is in all.
-#[derive(Debug, Drop)]
+#[derive(Drop)]
 pub(crate) struct Tally {
     pub classes: [u64; 6],
     pub files: u64,

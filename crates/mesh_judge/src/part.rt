@@ -1,7 +1,7 @@
 //! The parts of agreement.
 
 /// What two lists have to keep to agree, in the order in which it is judged.
-#[derive(Clone, Copy, Debug, PartialEq, Eq)]
+#[derive(Clone, Copy)]
 pub enum Part {
     /// There is a history for each node, and a record for each actor and the operator.
     Sizes,

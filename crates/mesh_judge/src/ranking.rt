@@ -14,7 +14,7 @@ use std::alloc::Global;
 
 /// What a moving line is sorted by: the promise that its node has after it, and its place in the
 /// record of that epoch's owner, or 0.
-#[derive(Clone, Copy, Debug, PartialEq, Eq)]
+#[derive(Clone, Copy)]
 pub(crate) struct Rank {
     pub(crate) promise: u64,
     pub(crate) place: usize,

@@ -12,7 +12,7 @@ use std::marker::Model;
 
 /// A line that reached a node: its place in the caller's record, from 1, and whether the reply to
 /// it was lost.
-#[derive(Clone, Copy, Debug, PartialEq, Eq)]
+#[derive(Clone, Copy)]
 pub struct Reach {
     pub place: usize,
     pub is_muted: bool,

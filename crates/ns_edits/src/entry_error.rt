@@ -4,7 +4,7 @@ ghost use Rattle.std.specs.Prelude.{◌≡◌};
 use std::alloc::AllocError;
 
 /// Why an entry isn't applied.
-#[derive(Debug, Drop)]
+#[derive(Drop)]
 pub enum EntryError {
     /// Its body doesn't decode, or its edit isn't admitted.
     Bad,

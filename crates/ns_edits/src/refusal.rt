@@ -1,7 +1,7 @@
 //! Why an edit is not admitted.
 
 /// The first condition of an edit that a namespace breaks.
-#[derive(Clone, Copy, Debug, PartialEq, Eq)]
+#[derive(Clone, Copy, Debug)]
 pub enum AdmitRefusal {
     /// A directory above the path is absent.
     NoParent,

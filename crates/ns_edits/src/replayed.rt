@@ -1,7 +1,7 @@
 //! What a replay comes to.
 
 /// What a replay of a batch comes to.
-#[derive(Clone, Copy, Debug, PartialEq, Eq)]
+#[derive(Clone, Copy, Debug)]
 pub enum Replayed {
     /// All bodies were applied.
     Done,

@@ -13,7 +13,7 @@ pub enum ReadImage {
 }
 
 /// Why the rows of an image could not be read.
-#[derive(Clone, Copy, Debug, PartialEq, Eq)]
+#[derive(Clone, Copy)]
 pub enum Unread {
     /// The field that begins at the place is wrong; for Trailing the place is the end of the image.
     BadBytes { place: usize, cause: ImageCause },

@@ -7,14 +7,14 @@ use crate::image_cause::ImageCause;
 use std::alloc::{AllocError, AllocFailed};
 
 /// What is wrong with a field, and how many bytes are left where it begins.
-#[derive(Clone, Copy, Debug)]
+#[derive(Clone, Copy)]
 pub(crate) struct ImageFault {
     pub left: usize,
     pub cause: ImageCause,
 }
 
 /// Why something could not be read.
-#[derive(Debug, Drop)]
+#[derive(Drop)]
 pub(crate) enum ReadError {
     Memory,
     Fault(ImageFault),

@@ -1,7 +1,7 @@
 //! The newest image.
 
 /// The newest image that counts.
-#[derive(Clone, Copy, Debug, PartialEq, Eq)]
+#[derive(Clone, Copy, Debug)]
 pub enum Newest {
     /// Its txid, of at most 2^62.
     Image { txid: u64 },

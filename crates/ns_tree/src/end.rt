@@ -7,30 +7,55 @@ use std::alloc::Global;
 use std::marker::Model;
 
 /// A namespace's rows, in the order of a walk.
-#[derive(Drop)]
 pub struct RowList {
     items: Vec<Row>,
 }
 
+impl Drop for RowList {
+    fn drop(self) {
+        let RowList { items } = self;
+        drop(items);
+    }
+}
+
 /// What an actor with names holds at last: how many edits it has applied, and the rows that they
 /// left.
-#[derive(Drop)]
 pub struct LastSpace {
     pub position: u64,
     pub rows: RowList,
 }
 
+impl Drop for LastSpace {
+    fn drop(self) {
+        let LastSpace { position: _, rows } = self;
+        drop(rows);
+    }
+}
+
 /// An actor's name, and what it holds at last; none of an actor without names.
-#[derive(Drop)]
 pub struct End {
     pub name: Name,
     pub last: Option<LastSpace>,
 }
 
+impl Drop for End {
+    fn drop(self) {
+        let End { name, last } = self;
+        drop(name);
+        drop(last);
+    }
+}
+
 /// One end per actor, in order of declaration.
-#[derive(Drop)]
 pub struct EndList {
     items: Vec<End>,
+}
+
+impl Drop for EndList {
+    fn drop(self) {
+        let EndList { items } = self;
+        drop(items);
+    }
 }
 
 impl Model for RowList {

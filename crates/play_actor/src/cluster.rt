@@ -29,13 +29,27 @@ use std::mem;
 
 /// Whether a play is one with names, its nodes and its actors, and the operator's number and
 /// record. Contracts see what is kept of the play.
-#[derive(Drop)]
 pub(crate) struct Cluster<A: Actor, N: CutNode + Drop> {
     named: bool,
     cells: Vec<NodeCell<N>>,
     players: Vec<Player<A>>,
     operator: u32,
     operated: RecordList,
+}
+
+impl<A: Actor, N: CutNode + Drop> Drop for Cluster<A, N> {
+    fn drop(self) {
+        let Cluster {
+            named: _,
+            cells,
+            players,
+            operator: _,
+            operated,
+        } = self;
+        drop(cells);
+        drop(players);
+        drop(operated);
+    }
 }
 
 impl<A: Actor, N: CutNode + Drop> Model for Cluster<A, N> {

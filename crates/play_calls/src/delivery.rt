@@ -1,7 +1,7 @@
 //! How a call goes.
 
 /// How a call goes, by its caller's marks.
-#[derive(Clone, Copy, Debug, PartialEq, Eq)]
+#[derive(Clone, Copy, PartialEq, Eq)]
 pub enum Delivery {
     /// Its answer is heard.
     Delivered,

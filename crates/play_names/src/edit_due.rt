@@ -2,7 +2,7 @@
 use ns_edits::AdmitRefusal;
 
 /// What becomes of an edit that is submitted with others.
-#[derive(Clone, Copy, Debug, PartialEq, Eq)]
+#[derive(Clone, Copy)]
 pub enum EditDue {
     /// It is to be logged.
     Pends,

@@ -1,7 +1,7 @@
 //! What a line may do to one call of an actor.
 
 /// The first word of such a line.
-#[derive(Clone, Copy, Debug, PartialEq, Eq)]
+#[derive(Clone, Copy)]
 pub enum CallWord {
     /// `drop`
     Drop,

@@ -11,7 +11,7 @@ use crate::task_word::TaskWord;
 use base_words::{count_words, split_word};
 
 /// A kind of line after the first, by its first word.
-#[derive(Clone, Copy, Debug, PartialEq, Eq)]
+#[derive(Clone, Copy)]
 pub enum Kind {
     /// `writer NAME`, or `name NAME` with namespaces
     Declare,

@@ -1,7 +1,7 @@
 //! What a line may do to a node.
 
 /// The first word of such a line.
-#[derive(Clone, Copy, Debug, PartialEq, Eq)]
+#[derive(Clone, Copy)]
 pub enum NodeWord {
     /// `kill`
     Kill,

@@ -6,11 +6,21 @@ use std::marker::Model;
 
 /// A script: whether its actors have namespaces, the number of nodes, and the lines, without
 /// comments and empty lines.
-#[derive(Drop)]
 pub struct Script {
     named: bool,
     nodes: usize,
     lines: Vec<ScriptLine>,
+}
+
+impl Drop for Script {
+    fn drop(self) {
+        let Script {
+            named: _,
+            nodes: _,
+            lines,
+        } = self;
+        drop(lines);
+    }
 }
 
 impl Model for Script {

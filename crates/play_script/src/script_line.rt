@@ -5,7 +5,6 @@ use journal_history::Stop;
 
 /// A line of a script that says something, after the first. An actor is its number in order of
 /// declaration, from 0; a node is its number from 1.
-#[derive(Drop)]
 pub enum ScriptLine {
     /// `writer NAME`: a writer is declared. `name NAME`: an actor with a namespace is.
     Declare { name: Bytes },
@@ -45,4 +44,47 @@ pub enum ScriptLine {
     /// inside it, after K effects. `cut I J D CHOICE`: the same after D disk calls, and the crash
     /// leaves by this choice what wasn't synced.
     Arm { node: usize, calls: u64, stop: Stop },
+}
+
+impl Drop for ScriptLine {
+    fn drop(self) {
+        match self {
+            ScriptLine::Declare { name: _ } => {}
+            ScriptLine::Takeover { actor: _ } => {}
+            ScriptLine::Roll { actor: _ } => {}
+            ScriptLine::Close { actor: _ } => {}
+            ScriptLine::Log {
+                actor: _,
+                bodies: _,
+            } => {}
+            ScriptLine::Edits { actor: _, edits: _ } => {}
+            ScriptLine::Purge { actor: _, min: _ } => {}
+            ScriptLine::Trim { actor: _, extra: _ } => {}
+            ScriptLine::Tail { actor: _ } => {}
+            ScriptLine::Checkpoint { actor: _ } => {}
+            ScriptLine::Reload { actor: _ } => {}
+            ScriptLine::Drop {
+                actor: _,
+                node: _,
+                call: _,
+            } => {}
+            ScriptLine::Mute {
+                actor: _,
+                node: _,
+                call: _,
+            } => {}
+            ScriptLine::Late {
+                actor: _,
+                node: _,
+                call: _,
+            } => {}
+            ScriptLine::Kill { node: _ } => {}
+            ScriptLine::Restart { node: _ } => {}
+            ScriptLine::Arm {
+                node: _,
+                calls: _,
+                stop: _,
+            } => {}
+        }
+    }
 }

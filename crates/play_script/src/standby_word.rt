@@ -1,7 +1,7 @@
 //! What a line of two words asks of a standby.
 
 /// The first word of such a line.
-#[derive(Clone, Copy, Debug, PartialEq, Eq)]
+#[derive(Clone, Copy)]
 pub enum StandbyWord {
     /// `tail`
     Tail,

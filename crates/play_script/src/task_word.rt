@@ -1,7 +1,7 @@
 //! Tasks that a line of two words hands over.
 
 /// The first word of such a line.
-#[derive(Clone, Copy, Debug, PartialEq, Eq)]
+#[derive(Clone, Copy)]
 pub enum TaskWord {
     /// `takeover`
     Takeover,

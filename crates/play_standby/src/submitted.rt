@@ -2,7 +2,7 @@
 use ns_edits::AdmitRefusal;
 
 /// What came of an edit that was submitted. Only `Taken` changes anything.
-#[derive(Clone, Copy, Debug, PartialEq, Eq)]
+#[derive(Clone, Copy)]
 pub enum Submitted {
     /// It is to be logged.
     Taken,

@@ -13,7 +13,7 @@ use mesh_judge::{are_operators, are_within, is_local_run, is_of_chores};
 use std::alloc::Global;
 
 /// Whose calls a record has.
-#[derive(Clone, Copy, Debug, PartialEq, Eq)]
+#[derive(Clone, Copy)]
 pub(crate) enum Caller {
     /// An actor's, of some chores.
     Actor,

@@ -19,7 +19,7 @@ use play_report::caller_name;
 use std::alloc::Global;
 
 /// A list, by its index from 0.
-#[derive(Clone, Copy, Debug, PartialEq, Eq)]
+#[derive(Clone, Copy)]
 pub(crate) enum ListOf {
     /// A node's history.
     Node(usize),
@@ -28,7 +28,7 @@ pub(crate) enum ListOf {
 }
 
 /// A line of a list, by its index from 0.
-#[derive(Clone, Copy, Debug, PartialEq, Eq)]
+#[derive(Clone, Copy)]
 pub(crate) struct Place {
     pub(crate) list: ListOf,
     pub(crate) line: usize,

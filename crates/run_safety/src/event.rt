@@ -4,7 +4,7 @@ use journal_history::Stop;
 use writer_core::Task;
 
 /// What becomes of a call.
-#[derive(Clone, Copy, Debug, PartialEq, Eq)]
+#[derive(Clone, Copy)]
 pub enum Fate {
     /// Its answer is heard.
     Heard,

@@ -26,9 +26,15 @@ const MOST_EDITS: usize = 256;
 
 /// Final segments, kept beside the nodes that they were read from. It takes no part in any vote,
 /// and changes no node. Contracts see it as its segments by rising start.
-#[derive(Drop)]
 pub struct Mirror {
     segments: SegmentList,
+}
+
+impl Drop for Mirror {
+    fn drop(self) {
+        let Mirror { segments } = self;
+        drop(segments);
+    }
 }
 
 impl Model for Mirror {

@@ -26,9 +26,15 @@ use writer_core::{Begun, CauseList, Task, Turn, Writer};
 /// A writer of the journal that makes the calls of its tasks, at nodes that the caller hands to it.
 /// Contracts see it as the writer's state between its calls. After an abort, an epoch limit or want
 /// of memory only a takeover may begin.
-#[derive(Drop)]
 pub struct QuorumWriter {
     writer: Writer,
+}
+
+impl Drop for QuorumWriter {
+    fn drop(self) {
+        let QuorumWriter { writer } = self;
+        drop(writer);
+    }
 }
 
 impl Model for QuorumWriter {

@@ -3,7 +3,7 @@ use crate::told::NodeTold;
 use writer_core::Cause;
 
 /// A final line that a node told, and of which no segment is held.
-#[derive(Clone, Copy, Debug, PartialEq, Eq)]
+#[derive(Clone, Copy)]
 pub struct Missing {
     /// The txid of the first edit.
     pub start: u64,

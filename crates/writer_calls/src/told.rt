@@ -6,14 +6,14 @@ use journal_core::{Heard, Reply, SegmentLine};
 use writer_core::Cause;
 
 /// A line of a manifest, and the node that told it, from 1.
-#[derive(Clone, Copy, Debug)]
+#[derive(Clone, Copy)]
 pub struct ToldLine {
     pub node: usize,
     pub line: SegmentLine,
 }
 
 /// What came of a node's manifest call.
-#[derive(Clone, Copy, Debug, PartialEq, Eq)]
+#[derive(Clone, Copy)]
 pub struct NodeTold {
     /// `Ok` where the node told its segments, its refusal where it refused, and else `Silent`.
     pub cause: Cause,

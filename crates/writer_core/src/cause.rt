@@ -2,7 +2,7 @@
 use journal_core::Refusal;
 
 /// What came of a node's part in a round.
-#[derive(Clone, Copy, Debug, PartialEq, Eq)]
+#[derive(Clone, Copy)]
 pub enum Cause {
     /// It answered with the Ok kind.
     Ok,

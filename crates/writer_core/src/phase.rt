@@ -15,7 +15,7 @@ pub enum Phase {
 }
 
 /// What the task under way is for.
-#[derive(Clone, Copy, Debug, PartialEq, Eq)]
+#[derive(Clone, Copy)]
 pub enum Aim {
     Takeover,
     Log,

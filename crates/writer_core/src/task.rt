@@ -17,7 +17,7 @@ pub enum Task {
 }
 
 /// Whether a task began.
-#[derive(Clone, Copy, Debug, PartialEq, Eq)]
+#[derive(Clone, Copy, Debug)]
 pub enum Begun {
     /// It is under way.
     Going,

@@ -1,7 +1,7 @@
 //! What comes of an answer.
 
 /// What a task that is done gave.
-#[derive(Clone, Copy, Debug, PartialEq, Eq)]
+#[derive(Clone, Copy, Debug)]
 pub enum Outcome {
     /// The epoch, and the start of its first segment.
     Takeover { epoch: u64, first: u64 },
@@ -15,7 +15,7 @@ pub enum Outcome {
 }
 
 /// What follows an answer that was heard.
-#[derive(Clone, Copy, Debug, PartialEq, Eq)]
+#[derive(Clone, Copy, Debug)]
 pub enum Turn {
     /// There are more calls to make.
     Going,
