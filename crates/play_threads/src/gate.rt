@@ -40,11 +40,17 @@ pub type Holder<C> = Seat<C, View<(<C as GateCell>::Ask, <C as GateCell>::Answer
 
 /// A caller's seat at one gate: it has seen some of the history, and the places of the caller's own
 /// calls in it. It keeps neither: both are for contracts alone.
-#[derive(Drop)]
 pub struct GateSeat<C: GateCell> {
     pub(crate) seat: Holder<C>,
     caller: u32,
     ghost at_rest: { AtRest seat.me caller },
+}
+
+impl<C: GateCell> Drop for GateSeat<C> {
+    fn drop(self) {
+        let GateSeat { seat, caller: _ } = self;
+        drop(seat);
+    }
 }
 
 fn draw<C: GateCell>(steps: &Steps<C>, seat: &mut Holder<C>) -> u64
@@ -169,11 +175,17 @@ fn call<C: GateCell, R: Wait>(
 }
 
 /// A lock of a cell, with a seat for each caller, numbered from 0.
-#[derive(Drop)]
 pub struct Gate<C: GateCell> {
     table: Board<C>,
     seats: u32,
     ghost shape: { (table.shared.table_id.words ≡ 3) × (table.shared.table_id.slots ≡ 1) },
+}
+
+impl<C: GateCell + Drop> Drop for Gate<C> {
+    fn drop(self) {
+        let Gate { table, seats: _ } = self;
+        drop(table);
+    }
 }
 
 impl<C: GateCell> Gate<C> {
@@ -218,16 +230,18 @@ fn next_seat<C: GateCell>(steps: &Steps<C>, keeper: &mut Holder<C>, made: u32) -
     GateSeat { seat, caller: made }
 }
 
-// Takes in the seat whose turn it is.
-fn take_in<C: GateCell>(steps: &Steps<C>, keeper: &mut Holder<C>, seat: GateSeat<C>, made: u32)
-    requires own { (keeper.old.table_id ≡ steps.now.table_id) × (seat.seat.table_id ≡ steps.now.table_id) × (steps.now.table_id.words ≡ 3) × (steps.now.table_id.slots ≡ 1) }
-    requires keeps { keeper.old.me ≡ (keeper_of made keeper.old.me.0.ended, []) }
-    requires next { seat.caller ≡ length keeper.old.me.0.ended }
-    ensures same { keeper.new.table_id ≡ keeper.old.table_id }
-    ensures keeps { keeper.new.me ≡ (keeper_of made (keeper.old.me.0.ended ++ (seat.seat.me.0.seen, seat.seat.me.0.places) ∷ []), []) }
-{
-    let GateSeat { seat, caller: _ } = seat;
-    steps.join_seat::<Seats>(keeper, seat);
+impl<C: GateCell> GateSeat<C> {
+    // Is taken in, where it is its turn.
+    fn join(self, steps: &Steps<C>, keeper: &mut Holder<C>, made: u32)
+        requires own { (keeper.old.table_id ≡ steps.now.table_id) × (self.seat.table_id ≡ steps.now.table_id) × (steps.now.table_id.words ≡ 3) × (steps.now.table_id.slots ≡ 1) }
+        requires keeps { keeper.old.me ≡ (keeper_of made keeper.old.me.0.ended, []) }
+        requires next { self.caller ≡ length keeper.old.me.0.ended }
+        ensures same { keeper.new.table_id ≡ keeper.old.table_id }
+        ensures keeps { keeper.new.me ≡ (keeper_of made (keeper.old.me.0.ended ++ (self.seat.me.0.seen, self.seat.me.0.places) ∷ []), []) }
+    {
+        let GateSeat { seat, caller: _ } = self;
+        steps.join_seat::<Seats>(keeper, seat);
+    }
 }
 
 impl<C: GateCell> Gate<C> {
@@ -281,7 +295,7 @@ impl<C: GateCell> Gate<C> {
             made: _,
         } = keeper;
         for seat in seats {
-            take_in(&table.shared, &mut keeper, seat, made);
+            seat.join(&table.shared, &mut keeper, made);
         }
         let mut closed = table.close_with(keeper);
         let cell = closed.take(0);

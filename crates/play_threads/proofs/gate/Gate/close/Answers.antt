@@ -6,8 +6,8 @@ use Rattle.atomic_table.proofs.Lists.{at_index}
 use Rattle.play_threads.proofs.GateEnds.{leaves}
 use Rattle.play_threads.proofs.gate.Gate.close.Goals as goal
 
-pub take_in-requires-clause-own : goal.take_in-requires-clause-own
-take_in-requires-clause-own g c =
+pub join-requires-clause-own : goal.join-requires-clause-own
+join-requires-clause-own g c =
     let b = c.into_iter-seat-iterator.ensures.into_iter_gives in
     let t = YieldsList-turn (YieldsList-from_vec {s = c.into_iter-seat-iterator.result} c.args.seats.items b.0 (b.1 ∙ c.args.seats.ok.0))
     c.loop-seat.yielded c.loop-seat.seat-iterator c.loop-seat.yielded_by c.next.result c.next.new.self c.in-Some.seat c.in-Some.is
@@ -15,8 +15,8 @@ take_in-requires-clause-own g c =
     let mine = c.requires.own (length c.loop-seat.yielded) c.in-Some.seat (at_index _ _ _ t.0 t.1) in
     (search rules, mine.0, c.args.self.shape.0, c.args.self.shape.1)
 
-pub take_in-requires-clause-next : goal.take_in-requires-clause-next
-take_in-requires-clause-next g c =
+pub join-requires-clause-next : goal.join-requires-clause-next
+join-requires-clause-next g c =
     let b = c.into_iter-seat-iterator.ensures.into_iter_gives in
     let t = YieldsList-turn (YieldsList-from_vec {s = c.into_iter-seat-iterator.result} c.args.seats.items b.0 (b.1 ∙ c.args.seats.ok.0))
     c.loop-seat.yielded c.loop-seat.seat-iterator c.loop-seat.yielded_by c.next.result c.next.new.self c.in-Some.seat c.in-Some.is
