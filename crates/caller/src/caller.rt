@@ -1,16 +1,17 @@
 //! A caller.
-ghost use Rattle.std.specs.Prelude.{◌≡◌, ◌≤◌, [], true, IfOk, OnOk, OnErr};
+ghost use Rattle.std.specs.Prelude.{◌≡◌, ◌≤◌, [], true, IfOk, OnOk, OnErr, IsSome};
+ghost use Rattle.journal_core.specs.Limits.{max_number};
 ghost use Rattle.journal_core.specs.Peers.{FitsHeard};
-ghost use Rattle.journal_history.specs.declared.record.Record.TheVariants.{Operator};
+ghost use Rattle.journal_history.specs.declared.record.Record.TheVariants.{Operator, Outcome};
 ghost use Rattle.mesh.specs.Makers.{heard_of, IsOperation};
 ghost use Rattle.mesh.specs.Marks.{IsMarked};
-ghost use Rattle.play_calls.specs.Logs.{new_log, with_line};
+ghost use Rattle.play_calls.specs.Logs.{new_log, with_line, lose_call, mark_kind, earlier_call, IsCopied};
 ghost use Rattle.caller.specs.Callers.{CallGoes, IsTold, IsCalledOver, AreLater};
 
 use crate::wire::{CopyWire, OperatedWire, Wire};
 use journal_core::{Bytes, Heard, OutOfMemory, Peers, SharedRequest};
 use journal_history::{ListedRecord, NodeAsk, Told};
-use play_calls::{CallerLog, Delivery, Seats, heard_of};
+use play_calls::{CallerLog, Delivery, heard_of};
 use std::alloc::Global;
 use std::marker::Model;
 
@@ -133,6 +134,30 @@ impl<W: Wire> Caller<W> {
         self.log.records()
     }
 
+    /// Marks the `next`-th next call to this node: its reply is lost, or it isn't delivered.
+    pub fn lose_next(&mut self, node: usize, next: u64, mute: bool) -> Result<(), OutOfMemory>
+        requires low { 1 ≤ node }
+        requires high { node ≤ self.old.log.nodes }
+        requires from_one { 1 ≤ next }
+        requires in_range { next ≤ max_number }
+        ensures marked { OnOk result (self.new.log ≡ lose_call self.old.log node next (mark_kind mute)) }
+        ensures later { OnOk result (AreLater W.WireModel self.old self.new) }
+    {
+        if mute {
+            self.log.mute_next(node, next)
+        } else {
+            self.log.drop_next(node, next)
+        }
+    }
+
+    /// Lists a result.
+    pub fn say(&mut self, text: Bytes) -> Result<(), OutOfMemory>
+        ensures said { OnOk result (self.new.log ≡ with_line self.old.log (Outcome text)) }
+        ensures later { OnOk result (AreLater W.WireModel self.old self.new) }
+    {
+        self.log.say(text)
+    }
+
     /// The wire, and what was listed and marked.
     pub fn into_parts(self) -> (W, CallerLog)
         ensures wire { result.0 ≡ self.wire }
@@ -151,6 +176,26 @@ impl<W: Wire + Drop> Caller<W> {
     {
         let log = CallerLog::new(alloc, wire.count())?;
         Ok(Caller { wire, log })
+    }
+}
+
+impl<W: CopyWire> Caller<W> {
+    /// A copy of the call with this number to this node reaches the node; false where there was no
+    /// such call. Where memory sufficed so far it is wanted only of a call that there was.
+    pub fn copy(&mut self, alloc: Global, node: usize, number: u64) -> Result<bool, OutOfMemory>
+        requires low { 1 ≤ node }
+        requires high { node ≤ self.old.log.nodes }
+        requires from_one { 1 ≤ number }
+        ensures copied { IfOk result (λ made. IsCopied (earlier_call self.old.log node number) self.old.log node number made self.new.log) }
+        ensures later { OnOk result (AreLater W.WireModel self.old self.new) }
+        ensures memory { OnErr result (self.old.log.whole ≡ true → IsSome (earlier_call self.old.log node number)) }
+    {
+        let Some(request) = self.log.earlier(node, number)? else {
+            return Ok(false);
+        };
+        self.wire.copy(alloc, node, &request)?;
+        self.log.copy(node, number, request)?;
+        Ok(true)
     }
 }
 
@@ -209,49 +254,4 @@ impl<W: Wire> Peers for Caller<W> {
     ghost called_none = { λ c. called_none W.WireModel W.readies_none c };
 
     ghost called_on = { λ r s t a b. called_on W.WireModel W.readies_on r s t a b };
-}
-
-impl<W: CopyWire> Seats for Caller<W> {
-    ghost use Rattle.std.specs.Prelude.{refl};
-    ghost use Rattle.caller.specs.Callers.{AreLater};
-    ghost use Rattle.caller.specs.LaterLaws.{later_same, later_on};
-
-    ghost log = { λ c. c.log };
-
-    ghost later = { λ old new. AreLater W.WireModel old new };
-
-    fn mark(&mut self, node: usize, next: u64, mute: bool) -> Result<(), OutOfMemory> {
-        if mute {
-            self.log.mute_next(node, next)
-        } else {
-            self.log.drop_next(node, next)
-        }
-    }
-
-    fn late(&mut self, alloc: Global, node: usize, number: u64) -> Result<bool, OutOfMemory> {
-        let Some(request) = self.log.earlier(node, number)? else {
-            return Ok(false);
-        };
-        self.wire.copy(alloc, node, &request)?;
-        self.log.copy(node, number, request)?;
-        Ok(true)
-    }
-
-    fn say(&mut self, text: Bytes) -> Result<(), OutOfMemory> {
-        self.log.say(text)
-    }
-
-    ghost later_same = { λ c. later_same W.WireModel W.readies_none c };
-
-    ghost later_on = { λ r s t a b. later_on W.WireModel W.readies_on r s t a b };
-
-    ghost later_nodes = { λ r s h. h.nodes };
-
-    ghost calls_are = { λ c. refl };
-
-    ghost nodes_are = { λ c. refl };
-
-    ghost called_lists = { λ r s h. h.1 };
-
-    ghost called_later = { λ r s h. h.0 };
 }

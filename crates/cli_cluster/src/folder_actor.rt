@@ -1,14 +1,15 @@
 //! A name node whose images are files of a folder.
 ghost use Rattle.std.specs.Prelude.{◌≡◌, false, Some, OnOk};
+ghost use Rattle.caller.specs.Callers.{AreLater};
 ghost use Rattle.base_disk.specs.DiskCalls.{IfTold, IsDiskRun};
 ghost use Rattle.play_model.specs.Lines.{line_of};
 ghost use Rattle.play_model.specs.Actions.{action_of, has_names, kept_by, IsIdleActor, MayCome, TakesIf};
 ghost use Rattle.cli_cluster.specs.Images.{SavesStandby, SavesIn, TakesInFolder, is_checkpoint};
 
 use base_disk::{Disk, DiskFail};
+use caller::{Caller, CopyWire};
 use journal_core::OutOfMemory;
 use play_actor::ScriptActor;
-use play_calls::Seats;
 use play_model::{Actor, ActorLeft};
 use play_script::ScriptLine;
 use play_standby::checkpoint;
@@ -130,21 +131,21 @@ impl<D: Disk + Drop> Actor for FolderActor<D> {
     /// The action of a line, as an actor of a script takes it; a checkpoint saves the namespace in
     /// the folder first, and isn't taken where that fails.
     #[tactic(auto, using(crate::proofs::ImageLaws::first))]
-    fn take_line<S: Seats>(
+    fn take_line<W: CopyWire>(
         &mut self,
         alloc: Global,
-        seats: &mut S,
+        caller: &mut Caller<W>,
         line: &ScriptLine,
     ) -> Result<(), OutOfMemory>
-        requires idle { IsIdleActor (S.log seats.old).nodes (kept_by self.old.actor (S.log seats.old)) }
-        requires may { MayCome (has_names self.old.actor) (S.log seats.old).nodes line.now }
-        ensures takes { OnOk result (TakesIf (S.log seats.old).nodes (action_of (line_of line.now)) (kept_by self.old.actor (S.log seats.old)) (kept_by self.new.actor (S.log seats.new))) }
+        requires idle { IsIdleActor caller.old.log.nodes (kept_by self.old.actor caller.old.log) }
+        requires may { MayCome (has_names self.old.actor) caller.old.log.nodes line.now }
+        ensures takes { OnOk result (TakesIf caller.old.log.nodes (action_of (line_of line.now)) (kept_by self.old.actor caller.old.log) (kept_by self.new.actor caller.new.log)) }
         ensures named { OnOk result (has_names self.new.actor ≡ has_names self.old.actor) }
-        ensures later { OnOk result (S.later seats.old seats.new) }
+        ensures later { OnOk result (AreLater W.WireModel caller.old caller.new) }
         ensures folder { TakesInFolder D.DiskModel (is_checkpoint line.now) result self.old self.new }
     {
         self.save_first(alloc, line)?;
-        self.actor.take_line(alloc, seats, line)
+        self.actor.take_line(alloc, caller, line)
     }
 
     fn into_left(self, alloc: Global) -> Result<ActorLeft, OutOfMemory> {

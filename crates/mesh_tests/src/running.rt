@@ -1,11 +1,11 @@
 //! Scripts run by threads, over plain nodes.
 ghost use Rattle.play_script.specs.Grammar.{IsScript};
 
+use caller::{Caller, CopyWire};
 use journal_core::OutOfMemory;
 use journal_step::PlainNode;
 use ns_tree::LastSpace;
 use play_actor::{ScriptActor, plain_nodes};
-use play_calls::Seats;
 use play_model::{Played, scripts_are_playable};
 use play_pipes::run_piped_on;
 use play_script::{ReadScript, Script, ScriptLine, read_script};
@@ -19,14 +19,14 @@ use std::thread::Threads;
 struct TestedActors;
 
 impl Actors for TestedActors {
-    fn act<S: Seats>(
+    fn act<W: CopyWire>(
         alloc: Global,
         named: bool,
         lines: &[ScriptLine],
         actor: u32,
-        seats: &mut S,
+        caller: &mut Caller<W>,
     ) -> Result<Option<LastSpace>, OutOfMemory> {
-        act_alone::<ScriptActor, S>(alloc, named, lines, actor, seats)
+        act_alone::<ScriptActor, W>(alloc, named, lines, actor, caller)
     }
 }
 

@@ -16,7 +16,9 @@ use Rattle.play_model.specs.KeptActor.{KeptActor, new_actor, resting}
 use Rattle.play_model.specs.Actions.{IsIdleActor}
 use Rattle.play_model.specs.Plays.{Play, play_step, play_begins, line_taken, actor_at, histories_from, history_of, has_ended, no_lines, mesh_of, ends_from, ends_of, IsPlayed}
 use Rattle.play_actor.specs.Kept.{Kept, actor_of, Stands, IsAtRest, Leads, LeadsTo, with_actor, with_actor_at, new_kept, mesh_kept, end_of, ends_kept}
-use Rattle.play_actor.specs.PlaySeats.{LinesGo}
+use Rattle.caller.specs.Callers.{LinesGo}
+use Rattle.play_actor.specs.NodesWire.{NodesView, nodes_wire}
+use Rattle.play_actor.proofs.NodesGo.{nodes_for}
 use Rattle.play_actor.proofs.KeptSteps.{step_line}
 use Rattle.play_model.proofs.KeptActor.{idle_no_tail, rests}
 use Rattle.play_actor.proofs.KeptTurns.{leads_one, leads_on, IsActing, with_cells, after_marks, lines_act, rest_after}
@@ -65,10 +67,10 @@ handed_todo n a d idle =
     (ap is_wanting (rests a None (idle_no_tail a.holds idle.holds) idle.rests))
 
 -- an action, from one rest to the next
-pub action_leads : (k : Kept) (ls : List Line) (c n : ℕ) (d : Action) (lines : List Record) (b : KeptActor) (cells : List CellView) → c < length k.actors → IsIdleActor n (actor_of k c)
+pub action_leads : (k : Kept) (ls : List Line) (c n : ℕ) (d : Action) (lines : List Record) (b : KeptActor) (new : NodesView) → c < length k.actors → IsIdleActor n (actor_of k c)
     → IsLed (hand_action d (resting (actor_of k c))) lines → actor_after (hand_action d (resting (actor_of k c))) lines ≡ resting b → IsIdleActor n b → b.name ≡ (actor_of k c).name
-    → IsMarked b.marks (actor_of k c).past lines → LinesGo c lines k.nodes cells → LeadsTo (IsAtRest (Acts c d ∷ ls) k) (IsAtRest ls (with_actor_at (with_cells k cells) c b))
-action_leads k ls c n d lines b cells l idle led after over name marked go p h =
+    → IsMarked b.marks (actor_of k c).past lines → LinesGo nodes_wire lines (nodes_for c k.nodes) new → LeadsTo (IsAtRest (Acts c d ∷ ls) k) (IsAtRest ls (with_actor_at (with_cells k new.cells) c b))
+action_leads k ls c n d lines b new l idle led after over name marked go p h =
     let a : KeptActor = actor_of k c in
     let x : Actor = hand_action d (resting a) in
     let todo : x.todo ≡ [] = handed_todo n a d idle in
@@ -82,9 +84,9 @@ action_leads k ls c n d lines b cells l idle led after over name marked go p h =
     } in
     let own : IsMarked x.marks x.past lines =
     subst (λ (ps : List Record). IsMarked x.marks ps lines) (sym (handed_past d (resting a))) (subst (λ (ms : List Mark). IsMarked ms a.past lines) marks marked) in
-    let two = lines_act lines ls c x k one cells l acting todo led own go in
-    let same : actor_of (with_cells k cells) c ≡ a = actor_as k cells c l in
-    let three = rest_after ls c n (with_cells k cells) b two.0 l over (name ∙ ap (λ y. y.name) (sym same)) (subst (λ y. IsActing ls c y (with_cells k cells) two.0) after two.2) in
+    let two = lines_act lines ls c x k one new l acting todo led own go in
+    let same : actor_of (with_cells k new.cells) c ≡ a = actor_as k new.cells c l in
+    let three = rest_after ls c n (with_cells k new.cells) b two.0 l over (name ∙ ap (λ y. y.name) (sym same)) (subst (λ y. IsActing ls c y (with_cells k new.cells) two.0) after two.2) in
     (three.0, leads_on p one three.0 (leads_one p one (step_handed k p ls c d x h refl)) (leads_on one two.0 three.0 two.1 three.1), three.2)
 
 -- ## A declaration

@@ -24,7 +24,9 @@ use Rattle.play_model.specs.Plays.{Play, play_step, play_steps, actor_at}
 use Rattle.play_model.specs.KeptActor.{KeptActor, new_actor, resting}
 use Rattle.play_model.specs.Actions.{IsIdleActor}
 use Rattle.play_actor.specs.Kept.{Kept, node_at, actor_of, list_ask, answer_to, reached_by, told_by, with_actor_at, Stands, IsAtRest, Leads}
-use Rattle.play_actor.specs.PlaySeats.{Reaches, CopyReaches, LinesGo}
+use Rattle.caller.specs.Callers.{LineGoes, LinesGo}
+use Rattle.play_actor.specs.NodesWire.{NodesView, nodes_wire}
+use Rattle.play_actor.proofs.NodesGo.{nodes_for, Reaches, CopyReaches, call_went, copy_went}
 use Rattle.play_actor.proofs.KeptLists.{set_set, histories_snoc}
 use Rattle.play_actor.proofs.KeptSteps.{placed, asked_play, reached_play, noted_play, called_play, copied_play, step_call, step_copy, step_says, step_rests}
 use Rattle.play_model.proofs.KeptActor.{idle_no_tail, rests}
@@ -215,24 +217,40 @@ then_acts : (ls : List Line) (c : ℕ) (k : Kept) (p : Play) (y z : Actor) (mid 
     → ((q : Play) → IsActing ls c y (with_cells k mid) q → Acts ls c z (with_cells k mid) cells q) → Acts ls c z k cells p
 then_acts ls c k p y z mid cells one more = let two = more one.0 one.2 in (two.0, leads_on p one.0 two.0 one.1 two.1, two.2)
 
+-- the lines that came behind one, from where that one left the nodes
+rest_goes : (c : ℕ) (rs : List Record) (mid new : NodesView) → mid.caller ≡ c → LinesGo nodes_wire rs mid new → LinesGo nodes_wire rs (nodes_for c mid.cells) new
+rest_goes c rs mid new e g = subst (λ k. LinesGo nodes_wire rs (nodes_for k mid.cells) new) e g
+
+-- one line went from these nodes
+line_from : (c : ℕ) (r : Record) (cells : List CellView) (ahead after : NodesView) → ahead ≡ nodes_for c cells → LineGoes nodes_wire r ahead after → LineGoes nodes_wire r (nodes_for c cells) after
+line_from c r cells ahead after e g = subst (λ v. LineGoes nodes_wire r v after) e g
+
 -- the play goes along the lines that an actor is led along, where its calls went as its marks say
-pub lines_act : (rs : List Record) (ls : List Line) (c : ℕ) (x : Actor) (k : Kept) (p : Play) (cells : List CellView) → c < length k.actors → IsActing ls c x k p → x.todo ≡ [] → IsLed x rs
-    → IsMarked x.marks x.past rs → LinesGo c rs k.nodes cells → Acts ls c (actor_after x rs) k cells p
+pub lines_act : (rs : List Record) (ls : List Line) (c : ℕ) (x : Actor) (k : Kept) (p : Play) (new : NodesView) → c < length k.actors → IsActing ls c x k p → x.todo ≡ [] → IsLed x rs
+    → IsMarked x.marks x.past rs → LinesGo nodes_wire rs (nodes_for c k.nodes) new → Acts ls c (actor_after x rs) k new.cells p
 unfolding IsLed actor_after IsMarked LinesGo
-lines_act [] ls c x k p cells l h todo led marked go =
-    let Q : List CellView → Type 0 = λ vs. IsActing ls c x (with_cells k vs) p in
+lines_act [] ls c x k p new l h todo led marked go =
+    let Q : NodesView → Type 0 = λ v. IsActing ls c x (with_cells k v.cells) p in
     (p, leads_same p, subst Q (sym go) h)
-lines_act (Call node r told ∷ rs) ls c x k p cells l h todo led marked go =
-    then_acts ls c k p (goes_on x (Call node r told)) (actor_after (goes_on x (Call node r told)) rs) go.0 cells
-    (call_acts ls c x k p node r told go.0 l h (call_want (wants x) node r told led.0) marked.0 go.1)
-    (λ q g. lines_act rs ls c (goes_on x (Call node r told)) (with_cells k go.0) q cells l g (goes_marks x (Call node r told) todo).0 led.1 (next_marked x (Call node r told) rs todo marked.1) go.2)
-lines_act (Late node r ∷ rs) ls c x k p cells l h todo led marked go =
-    then_acts ls c k p (goes_on x (Late node r)) (actor_after (goes_on x (Late node r)) rs) go.0 cells (copy_acts ls c x k p node r go.0 l h (copy_want (wants x) node r led.0) go.1)
-    (λ q g. lines_act rs ls c (goes_on x (Late node r)) (with_cells k go.0) q cells l g (goes_marks x (Late node r) todo).0 led.1 (next_marked x (Late node r) rs todo marked.1) go.2)
-lines_act (Outcome text ∷ rs) ls c x k p cells l h todo led marked go =
-    then_acts ls c k p (goes_on x (Outcome text)) (actor_after (goes_on x (Outcome text)) rs) go.0 cells (say_acts ls c x k p text go.0 l h (says_want (wants x) text led.0) go.1)
-    (λ q g. lines_act rs ls c (goes_on x (Outcome text)) (with_cells k go.0) q cells l g (goes_marks x (Outcome text) todo).0 led.1 (next_marked x (Outcome text) rs todo marked) go.2)
-lines_act (Operator node ask done ∷ rs) ls c x k p cells l h todo led marked go = absurd go.1
+lines_act (Call node r told ∷ rs) ls c x k p new l h todo led marked go =
+    let g = call_went node r told (nodes_for c k.nodes) go.after (line_from c (Call node r told) k.nodes go.ahead go.after go.readied go.went) in
+    then_acts ls c k p (goes_on x (Call node r told)) (actor_after (goes_on x (Call node r told)) rs) go.after.cells new.cells
+    (call_acts ls c x k p node r told go.after.cells l h (call_want (wants x) node r told led.0) marked.0 g.1)
+    (λ q a. lines_act rs ls c (goes_on x (Call node r told)) (with_cells k go.after.cells) q new l a (goes_marks x (Call node r told) todo).0 led.1 (next_marked x (Call node r told) rs todo marked.1)
+    (rest_goes c rs go.after new g.0 go.rest))
+lines_act (Late node r ∷ rs) ls c x k p new l h todo led marked go =
+    let g = copy_went node r (nodes_for c k.nodes) go.after (line_from c (Late node r) k.nodes go.ahead go.after go.readied go.went) in
+    then_acts ls c k p (goes_on x (Late node r)) (actor_after (goes_on x (Late node r)) rs) go.after.cells new.cells
+    (copy_acts ls c x k p node r go.after.cells l h (copy_want (wants x) node r led.0) g.1)
+    (λ q a. lines_act rs ls c (goes_on x (Late node r)) (with_cells k go.after.cells) q new l a (goes_marks x (Late node r) todo).0 led.1 (next_marked x (Late node r) rs todo marked.1)
+    (rest_goes c rs go.after new g.0 go.rest))
+lines_act (Outcome text ∷ rs) ls c x k p new l h todo led marked go =
+    let e : go.after ≡ nodes_for c k.nodes = go.went ∙ go.readied in
+    then_acts ls c k p (goes_on x (Outcome text)) (actor_after (goes_on x (Outcome text)) rs) go.after.cells new.cells
+    (say_acts ls c x k p text go.after.cells l h (says_want (wants x) text led.0) (ap (λ (v : NodesView). v.cells) e))
+    (λ q a. lines_act rs ls c (goes_on x (Outcome text)) (with_cells k go.after.cells) q new l a (goes_marks x (Outcome text) todo).0 led.1 (next_marked x (Outcome text) rs todo marked)
+    (rest_goes c rs go.after new (ap (λ (v : NodesView). v.caller) e) go.rest))
+lines_act (Operator node ask done ∷ rs) ls c x k p new l h todo led marked go = absurd go.went.2
 
 -- ## An action, from one rest to the next
 pub rest_after : (ls : List Line) (c n : ℕ) (k : Kept) (b : KeptActor) (p : Play) → c < length k.actors → IsIdleActor n b → b.name ≡ (actor_of k c).name → IsActing ls c (resting b) k p

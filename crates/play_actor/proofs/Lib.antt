@@ -11,11 +11,11 @@ pub mod EditLaws
 pub mod EntryLaws
 pub mod KeptSteps
 pub mod KeptLists
+pub mod NodesGo
 pub mod KeptTurns
 pub mod KeptLines
 pub mod LineTaken
-pub mod NodesGo
-pub mod SeatsGo
+pub mod ActsTaken
 pub mod ClusterLaws
 pub mod PlayLaws
 pub mod NodesLeft

@@ -4,7 +4,7 @@ use Rattle.std.proofs.lemmas.List.{length-set, get_or-set_same, get_or-set_other
 use Rattle.std.proofs.lemmas.Bool.Decides.{eqb_tells}
 use Rattle.journal_history.specs.declared.node_ask.NodeAsk.{NodeAsk}
 use Rattle.journal_history.specs.declared.record.Record.{Record}
-use Rattle.journal_history.specs.declared.record.Record.TheVariants.{Call, Late, Operator, Outcome}
+use Rattle.journal_history.specs.declared.record.Record.TheVariants.{Operator}
 use Rattle.journal_history.specs.Cell.{Cell}
 use Rattle.journal_history.specs.NodeCells.{CellView}
 use Rattle.mesh.specs.Marks.{IsMarked}
@@ -13,24 +13,15 @@ use Rattle.play_model.specs.Actor.{IsLed, actor_after, hand_action}
 use Rattle.play_model.specs.Plays.{Play, is_done}
 use Rattle.play_model.specs.KeptActor.{KeptActor, new_actor, resting}
 use Rattle.play_actor.specs.Kept.{Kept, actor_of, node_at, list_ask, answer_to, operates, with_actor_at, Stands, IsAtRest, LeadsTo}
-use Rattle.play_actor.specs.PlaySeats.{LineGoes, LinesGo}
+use Rattle.caller.specs.Callers.{LinesGo}
+use Rattle.play_actor.specs.NodesWire.{NodesView, nodes_wire}
+use Rattle.play_actor.proofs.NodesGo.{nodes_for, lines_keep}
 use Rattle.play_actor.specs.Ready.{IsIdleIn, IsIdle, TakesLine}
 use Rattle.play_actor.proofs.KeptSteps.{asked_play, operated_play, step_operated}
 use Rattle.play_actor.proofs.KeptTurns.{leads_one, cell_there, with_node, with_cells, stands_asked}
 use Rattle.play_actor.proofs.KeptLines.{action_leads}
 
 -- ## An action
-line_length : (c : ℕ) (r : Record) (old new : List CellView) → LineGoes c r old new → length new ≡ length old
-line_length c (Call node q told) old new g = ap length g.cells ∙ length-set old (node - 1) _
-line_length c (Late node q) old new g = ap length g.cells ∙ length-set old (node - 1) _
-line_length c (Outcome text) old new g = ap length g
-line_length c (Operator node ask done) old new g = absurd g
-
-pub lines_length : (c : ℕ) (rs : List Record) (old new : List CellView) → LinesGo c rs old new → length new ≡ length old
-unfolding LinesGo
-lines_length c [] old new g = ap length g
-lines_length c (r ∷ rs) old new g = lines_length c rs g.0 new g.2 ∙ line_length c r old g.0 g.1
-
 -- the actor that took it, and the others as they were
 others : (k : Kept) (c e : ℕ) (b : KeptActor) (cells : List CellView) → length cells ≡ length k.nodes → c < length k.actors → IsIdleIn k.named (length k.nodes) b
     → IsIdleIn k.named (length k.nodes) (actor_of k e) → IsIdleIn k.named (length cells) (actor_of (with_actor_at (with_cells k cells) c b) e)
@@ -42,12 +33,12 @@ others k c e b cells long l mine other =
       | inr off ↦ subst (λ a. IsIdleIn k.named (length k.nodes) a) (sym (get_or-set_other k.actors c e b (new_actor k.named (length k.nodes) []) off.1)) other
     ])
 
-pub takes_action : (k : Kept) (c : ℕ) (d : Action) (lines : List Record) (b : KeptActor) (cells : List CellView) → c < length k.actors → IsIdle k
+pub takes_action : (k : Kept) (c : ℕ) (d : Action) (lines : List Record) (b : KeptActor) (new : NodesView) → c < length k.actors → IsIdle k
     → IsLed (hand_action d (resting (actor_of k c))) lines → actor_after (hand_action d (resting (actor_of k c))) lines ≡ resting b → IsIdleIn k.named (length k.nodes) b
-    → b.name ≡ (actor_of k c).name → IsMarked b.marks (actor_of k c).past lines → LinesGo c lines k.nodes cells
-    → TakesLine (Acts c d) (length k.actors) k (with_actor_at (with_cells k cells) c b)
-takes_action k c d lines b cells l idle led after mine name marked go =
-    let n : length cells ≡ length k.nodes = lines_length c lines k.nodes cells go in
+    → b.name ≡ (actor_of k c).name → IsMarked b.marks (actor_of k c).past lines → LinesGo nodes_wire lines (nodes_for c k.nodes) new
+    → TakesLine (Acts c d) (length k.actors) k (with_actor_at (with_cells k new.cells) c b)
+takes_action k c d lines b new l idle led after mine name marked go =
+    let n : length new.cells ≡ length k.nodes = (lines_keep lines (nodes_for c k.nodes) new go).1 in
     let m : length (set k.actors c b) ≡ length k.actors = length-set k.actors c b in
     record {
       nodes = n;
@@ -55,9 +46,9 @@ takes_action k c d lines b cells l idle led after mine name marked go =
       named = refl;
       idle = record {
         some = let some = idle.some in omega (arith, n, some);
-        actors = λ e h. others k c e b cells n l mine (idle.actors e (omega (arith, h, m)));
+        actors = λ e h. others k c e b new.cells n l mine (idle.actors e (omega (arith, h, m)));
       };
-      leads = λ ls. action_leads k ls c (length k.nodes) d lines b cells l (idle.actors c l).idle led after mine.idle name marked go;
+      leads = λ ls. action_leads k ls c (length k.nodes) d lines b new l (idle.actors c l).idle led after mine.idle name marked go;
     }
 
 -- ## An operation

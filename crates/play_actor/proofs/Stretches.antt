@@ -1,4 +1,4 @@
--- An actor over its seats: along its calls and its actions it is led as its actions say, whatever
+-- An actor through its caller: along its calls and its actions it is led as its actions say, whatever
 -- it hears.
 use Rattle.std.proofs.Common.{◌≡◌, ℕ, List, [], ◌∷◌, ◌++◌, map, Bool, true, false, refl, sym, ap, ◌∙◌, subst, Option, Some, None, append_assoc, append-nil}
 use Rattle.std.specs.Prelude.{Result, Ok, Err, OnOk}

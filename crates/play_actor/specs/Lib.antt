@@ -8,8 +8,6 @@ pub mod Refusals
 pub mod Kinds
 pub mod Kept
 pub mod Shown
-pub mod PlaySeats
 pub mod NodesWire
-pub mod SeatLaws
 pub mod Ready
 pub mod Goal

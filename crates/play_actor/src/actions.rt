@@ -1,6 +1,7 @@
-//! What every actor does over its seats: its results, its losses and copies; and the tasks of one
-//! without names.
+//! What every actor does through its caller: its results, its losses and copies; and the tasks of
+//! one without names.
 ghost use Rattle.std.specs.Prelude.{◌≡◌, ◌≢◌, ◌≤◌, ◌++◌, map, OnOk, IfOk, None, Option};
+ghost use Rattle.caller.specs.Callers.{AreLater};
 ghost use Rattle.journal_core.specs.Limits.{max_number};
 ghost use Rattle.writer_core.specs.Views.{WriterView};
 ghost use Rattle.writer_core.specs.Writer.{HasBody};
@@ -13,8 +14,8 @@ ghost use Rattle.play_model.specs.KeptActor.{as_actor, resting};
 ghost use Rattle.play_actor.specs.Came.{texts_came, CameFits};
 ghost use Rattle.play_model.specs.Actions.{kept_of, LedTo, IsIdleActor, IsUnbroken, TakesAction, mark_action};
 
+use caller::{Caller, CopyWire};
 use journal_core::{Bytes, OutOfMemory};
-use play_calls::Seats;
 use play_names::{inactive_texts, no_call, results, too_long};
 use std::alloc::{AllocError, Global};
 use writer_calls::{Came, QuorumWriter};
@@ -45,24 +46,24 @@ fn edits_of(task: &Task) -> Option<usize>
 }
 
 /// Lists texts.
-fn list_all<S: Seats>(seats: &mut S, texts: Vec<Bytes>) -> Result<(), OutOfMemory>
-    ensures past { OnOk result ((S.log seats.new).past ≡ (S.log seats.old).past ++ map (λ text. Outcome text) texts.items) }
-    ensures marks { OnOk result ((S.log seats.new).marks ≡ (S.log seats.old).marks) }
-    ensures later { OnOk result (S.later seats.old seats.new) }
+fn list_all<W: CopyWire>(caller: &mut Caller<W>, texts: Vec<Bytes>) -> Result<(), OutOfMemory>
+    ensures past { OnOk result (caller.new.log.past ≡ caller.old.log.past ++ map (λ text. Outcome text) texts.items) }
+    ensures marks { OnOk result (caller.new.log.marks ≡ caller.old.log.marks) }
+    ensures later { OnOk result (AreLater W.WireModel caller.old caller.new) }
 {
     for text in texts {
-        seats.say(text)?;
+        caller.say(text)?;
     }
     Ok(())
 }
 
 /// Lists results: what is left of an action whose results are due.
-pub fn say_all<S: Seats>(seats: &mut S, texts: Vec<Bytes>) -> Result<(), OutOfMemory>
+pub fn say_all<W: CopyWire>(caller: &mut Caller<W>, texts: Vec<Bytes>) -> Result<(), OutOfMemory>
     ensures leads { OnOk result ((writer : WriterView) (held : Option Holding)
-        → LedTo (as_actor None texts.items (kept_of writer held (S.log seats.old))) (resting (kept_of writer held (S.log seats.new)))) }
-    ensures later { OnOk result (S.later seats.old seats.new) }
+        → LedTo (as_actor None texts.items (kept_of writer held caller.old.log)) (resting (kept_of writer held caller.new.log))) }
+    ensures later { OnOk result (AreLater W.WireModel caller.old caller.new) }
 {
-    list_all(seats, texts)
+    list_all(caller, texts)
 }
 
 /// The results of a task with this name, by what came of it.
@@ -87,62 +88,62 @@ fn came_texts(
 }
 
 /// A task of an actor without names: its calls, and its results.
-pub fn take_task<S: Seats>(
+pub fn take_task<W: CopyWire>(
     alloc: Global,
     writer: &mut QuorumWriter,
-    seats: &mut S,
+    caller: &mut Caller<W>,
     task: Task,
 ) -> Result<(), OutOfMemory>
-    requires idle { IsIdleActor (S.log seats.old).nodes (kept_of writer.old None (S.log seats.old)) }
+    requires idle { IsIdleActor caller.old.log.nodes (kept_of writer.old None caller.old.log) }
     requires body { HasBody task }
-    ensures takes { OnOk result (TakesAction (S.log seats.old).nodes (Does task) (kept_of writer.old None (S.log seats.old)) (kept_of writer.new None (S.log seats.new))) }
-    ensures later { OnOk result (S.later seats.old seats.new) }
+    ensures takes { OnOk result (TakesAction caller.old.log.nodes (Does task) (kept_of writer.old None caller.old.log) (kept_of writer.new None caller.new.log)) }
+    ensures later { OnOk result (AreLater W.WireModel caller.old caller.new) }
 {
     let name = name_of(&task);
     let edits = edits_of(&task);
-    let came = writer.run(alloc, seats, task);
+    let came = writer.run(alloc, caller, task);
     let texts = came_texts(alloc, name, edits, came)?;
-    say_all(seats, texts)
+    say_all(caller, texts)
 }
 
 /// One of the next calls to this node is lost: the call, or its reply.
-pub fn take_mark<S: Seats>(
-    seats: &mut S,
+pub fn take_mark<W: CopyWire>(
+    caller: &mut Caller<W>,
     node: usize,
     call: u64,
     mute: bool,
 ) -> Result<(), OutOfMemory>
     requires low { 1 ≤ node }
-    requires high { node ≤ (S.log seats.old).nodes }
+    requires high { node ≤ caller.old.log.nodes }
     requires from_one { 1 ≤ call }
     requires in_range { call ≤ max_number }
     ensures takes { OnOk result ((writer : WriterView) (held : Option Holding)
-        → IsIdleActor (S.log seats.old).nodes (kept_of writer held (S.log seats.old)) → IsUnbroken held
-        → TakesAction (S.log seats.old).nodes (mark_action mute node call) (kept_of writer held (S.log seats.old)) (kept_of writer held (S.log seats.new))) }
-    ensures later { OnOk result (S.later seats.old seats.new) }
+        → IsIdleActor caller.old.log.nodes (kept_of writer held caller.old.log) → IsUnbroken held
+        → TakesAction caller.old.log.nodes (mark_action mute node call) (kept_of writer held caller.old.log) (kept_of writer held caller.new.log)) }
+    ensures later { OnOk result (AreLater W.WireModel caller.old caller.new) }
 {
-    seats.mark(node, call, mute)
+    caller.lose_next(node, call, mute)
 }
 
 /// A copy of one of the calls to this node comes late. Where there is no such call that is the
 /// result.
-pub fn take_late<S: Seats>(
+pub fn take_late<W: CopyWire>(
     alloc: Global,
-    seats: &mut S,
+    caller: &mut Caller<W>,
     node: usize,
     call: u64,
 ) -> Result<(), OutOfMemory>
     requires low { 1 ≤ node }
-    requires high { node ≤ (S.log seats.old).nodes }
+    requires high { node ≤ caller.old.log.nodes }
     requires from_one { 1 ≤ call }
     ensures takes { OnOk result ((writer : WriterView) (held : Option Holding)
-        → IsIdleActor (S.log seats.old).nodes (kept_of writer held (S.log seats.old)) → IsUnbroken held
-        → TakesAction (S.log seats.old).nodes (DoLate node call) (kept_of writer held (S.log seats.old)) (kept_of writer held (S.log seats.new))) }
-    ensures later { OnOk result (S.later seats.old seats.new) }
+        → IsIdleActor caller.old.log.nodes (kept_of writer held caller.old.log) → IsUnbroken held
+        → TakesAction caller.old.log.nodes (DoLate node call) (kept_of writer held caller.old.log) (kept_of writer held caller.new.log)) }
+    ensures later { OnOk result (AreLater W.WireModel caller.old caller.new) }
 {
-    if seats.late(alloc, node, call)? {
+    if caller.copy(alloc, node, call)? {
         return Ok(());
     }
     let texts = no_call(alloc)?;
-    say_all(seats, texts)
+    say_all(caller, texts)
 }

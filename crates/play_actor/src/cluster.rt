@@ -197,12 +197,12 @@ impl<A: Actor, N: CutNode + Drop> Cluster<A, N> {
             cells,
             caller: actor,
         };
-        let mut seats = Caller::of(wire, log);
-        player.actor.take_line(alloc, &mut seats, line)?;
-        if !seats.is_whole() {
+        let mut by = Caller::of(wire, log);
+        player.actor.take_line(alloc, &mut by, line)?;
+        if !by.is_whole() {
             return Err(AllocError);
         }
-        let (wire, log) = seats.into_parts();
+        let (wire, log) = by.into_parts();
         let NodesWire { cells, caller: _ } = wire;
         player.log = log;
         Ok(Cluster {

@@ -1,5 +1,5 @@
-//! The program's actor: what it does with each line of a script, over the seats through which it
-//! calls; plays: nodes, and actors of any kind, taken through a script's lines in order.
+//! The program's actor: what it does with each line of a script, through its caller;
+//! plays: nodes, and actors of any kind, taken through a script's lines in order.
 #![tactic(auto)]
 
 mod actions;

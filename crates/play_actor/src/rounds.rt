@@ -1,5 +1,6 @@
 //! The rounds of an active name node of a script: rolls, closes and trims, and how each ends.
 ghost use Rattle.std.specs.Prelude.{◌≡◌, ◌≢◌, [], false, OnOk, IfOk};
+ghost use Rattle.caller.specs.Callers.{AreLater};
 ghost use Rattle.writer_core.specs.Writer.{is_writing};
 ghost use Rattle.writer_core.specs.declared.task.Task.TheVariants as task;
 ghost use Rattle.play_standby.specs.Actives.{is_open};
@@ -12,51 +13,51 @@ use crate::actions::say_all;
 use crate::name_node::NameNode;
 use crate::role::Resting;
 use crate::takeovers::begin_again;
+use caller::{Caller, CopyWire};
 use journal_core::{Bytes, OutOfMemory};
-use play_calls::Seats;
 use play_names::{aborted_text, numbered_text, once, one_word};
 use play_standby::{Active, Left, SavedImages};
 use std::alloc::{AllocError, Global};
 use writer_calls::{Closed, Purging, Rolled};
 
 /// The open segment ends, and the next one begins.
-pub(crate) fn take_roll<S: Seats>(
+pub(crate) fn take_roll<W: CopyWire>(
     alloc: Global,
     active: Active,
     images: SavedImages,
-    seats: &mut S,
+    caller: &mut Caller<W>,
 ) -> Result<NameNode, OutOfMemory>
-    requires idle { IsIdleActor (S.log seats.old).nodes (kept_active images active (S.log seats.old)) }
+    requires idle { IsIdleActor caller.old.log.nodes (kept_active images active caller.old.log) }
     requires serving { IsServing active }
-    ensures takes { IfOk result (λ new. TakesAction (S.log seats.old).nodes (Does task.Roll) (kept_active images active (S.log seats.old)) (kept_node new (S.log seats.new))) }
-    ensures later { OnOk result (S.later seats.old seats.new) }
+    ensures takes { IfOk result (λ new. TakesAction caller.old.log.nodes (Does task.Roll) (kept_active images active caller.old.log) (kept_node new caller.new.log)) }
+    ensures later { OnOk result (AreLater W.WireModel caller.old caller.new) }
 {
     let mut active = active;
-    let rolled = active.roll(alloc, seats);
+    let rolled = active.roll(alloc, caller);
     let texts = rolled_texts(alloc, &rolled)?;
-    end_round(alloc, active, images, seats, texts)
+    end_round(alloc, active, images, caller, texts)
 }
 
 /// The open segment ends, and the epoch is given up.
-pub(crate) fn take_close<S: Seats>(
+pub(crate) fn take_close<W: CopyWire>(
     alloc: Global,
     active: Active,
     images: SavedImages,
-    seats: &mut S,
+    caller: &mut Caller<W>,
 ) -> Result<NameNode, OutOfMemory>
-    requires idle { IsIdleActor (S.log seats.old).nodes (kept_active images active (S.log seats.old)) }
+    requires idle { IsIdleActor caller.old.log.nodes (kept_active images active caller.old.log) }
     requires serving { IsServing active }
-    ensures takes { IfOk result (λ new. TakesAction (S.log seats.old).nodes (Does task.Close) (kept_active images active (S.log seats.old)) (kept_node new (S.log seats.new))) }
-    ensures later { OnOk result (S.later seats.old seats.new) }
+    ensures takes { IfOk result (λ new. TakesAction caller.old.log.nodes (Does task.Close) (kept_active images active caller.old.log) (kept_node new caller.new.log)) }
+    ensures later { OnOk result (AreLater W.WireModel caller.old caller.new) }
 {
     let Left {
         standby,
         writer,
         closed,
-    } = active.leave(alloc, seats)?;
+    } = active.leave(alloc, caller)?;
     let texts = closed_texts(alloc, &closed)?;
     let node = closed_node(alloc, Resting { writer, standby }, images, &closed)?;
-    say_all(seats, texts)?;
+    say_all(caller, texts)?;
     Ok(node)
 }
 
@@ -80,46 +81,46 @@ fn closed_node(
 }
 
 /// A purge of what its two newest images make needless, but for `extra` edits more.
-pub(crate) fn take_trim<S: Seats>(
+pub(crate) fn take_trim<W: CopyWire>(
     alloc: Global,
     active: Active,
     images: SavedImages,
-    seats: &mut S,
+    caller: &mut Caller<W>,
     extra: u64,
 ) -> Result<NameNode, OutOfMemory>
-    requires idle { IsIdleActor (S.log seats.old).nodes (kept_active images active (S.log seats.old)) }
+    requires idle { IsIdleActor caller.old.log.nodes (kept_active images active caller.old.log) }
     requires serving { IsServing active }
-    ensures takes { IfOk result (λ new. TakesAction (S.log seats.old).nodes (Trims extra) (kept_active images active (S.log seats.old)) (kept_node new (S.log seats.new))) }
-    ensures later { OnOk result (S.later seats.old seats.new) }
+    ensures takes { IfOk result (λ new. TakesAction caller.old.log.nodes (Trims extra) (kept_active images active caller.old.log) (kept_node new caller.new.log)) }
+    ensures later { OnOk result (AreLater W.WireModel caller.old caller.new) }
 {
     let mut active = active;
     let mut images = images;
     let Some(min) = images.min_to_keep(alloc, extra)? else {
-        say_all(seats, one_word(alloc, b"trim noimage")?)?;
+        say_all(caller, one_word(alloc, b"trim noimage")?)?;
         return Ok(NameNode::serving(active, images));
     };
-    let purging = active.purge(alloc, seats, min);
+    let purging = active.purge(alloc, caller, min);
     let texts = purging_texts(alloc, min, &purging)?;
-    end_round(alloc, active, images, seats, texts)
+    end_round(alloc, active, images, caller, texts)
 }
 
 /// The results of a round are listed; what it is then. Where the round was aborted it begins again
 /// from its newest image.
-pub(crate) fn end_round<S: Seats>(
+pub(crate) fn end_round<W: CopyWire>(
     alloc: Global,
     active: Active,
     images: SavedImages,
-    seats: &mut S,
+    caller: &mut Caller<W>,
     texts: Vec<Bytes>,
 ) -> Result<NameNode, OutOfMemory>
     requires { active.bodies ≡ [] }
     ensures writer { IfOk result (λ node. node.writer ≡ active.writer) }
     ensures holding { IfOk result (λ node. node.holding ≡ held_after (is_open active) images active) }
-    ensures said { OnOk result (IsSaidOf (S.log seats.old) (S.log seats.new) texts.items) }
-    ensures later { OnOk result (S.later seats.old seats.new) }
+    ensures said { OnOk result (IsSaidOf caller.old.log caller.new.log texts.items) }
+    ensures later { OnOk result (AreLater W.WireModel caller.old caller.new) }
 {
     let node = after_round(alloc, active, images)?;
-    say_all(seats, texts)?;
+    say_all(caller, texts)?;
     Ok(node)
 }
 

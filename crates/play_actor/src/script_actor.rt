@@ -1,5 +1,6 @@
 //! An actor of a script.
 ghost use Rattle.std.specs.Prelude.{◌≡◌, ◌≤◌, false, None, OnOk, IfOk, MatchOption};
+ghost use Rattle.caller.specs.Callers.{AreLater};
 ghost use Rattle.play_model.specs.Lines.{line_of};
 ghost use Rattle.play_model.specs.Actor.{last_of};
 ghost use Rattle.play_actor.specs.Kinds.{begun_actor, IsStandbyAt, IsNoStandby};
@@ -8,8 +9,8 @@ ghost use Rattle.play_model.specs.Actions.{ActorView, new_actor_view, has_names,
 use crate::actions::{take_late, take_mark, take_task};
 use crate::name_node::NameNode;
 use crate::named_lines::take_named;
+use caller::{Caller, CopyWire};
 use journal_core::OutOfMemory;
-use play_calls::Seats;
 use play_model::{Actor, ActorLeft};
 use play_script::ScriptLine;
 use play_standby::{SavedImages, Standby};
@@ -91,20 +92,20 @@ impl Actor for ScriptActor {
         })
     }
 
-    fn take_line<S: Seats>(
+    fn take_line<W: CopyWire>(
         &mut self,
         alloc: Global,
-        seats: &mut S,
+        caller: &mut Caller<W>,
         line: &ScriptLine,
     ) -> Result<(), OutOfMemory> {
         match mem::replace(&mut self.kind, Kind::Spent) {
             Kind::Raw(mut writer) => {
-                take_raw(alloc, &mut writer, seats, line)?;
+                take_raw(alloc, &mut writer, caller, line)?;
                 self.kind = Kind::Raw(writer);
                 Ok(())
             }
             Kind::Named(node) => {
-                let node = take_named(alloc, node, seats, line)?;
+                let node = take_named(alloc, node, caller, line)?;
                 self.kind = Kind::Named(node);
                 Ok(())
             }
@@ -125,28 +126,33 @@ impl Actor for ScriptActor {
 }
 
 /// A line of an actor without names.
-fn take_raw<S: Seats>(
+fn take_raw<W: CopyWire>(
     alloc: Global,
     writer: &mut QuorumWriter,
-    seats: &mut S,
+    caller: &mut Caller<W>,
     line: &ScriptLine,
 ) -> Result<(), OutOfMemory>
-    requires idle { IsIdleActor (S.log seats.old).nodes (kept_of writer.old None (S.log seats.old)) }
-    requires may { MayCome false (S.log seats.old).nodes line.now }
-    ensures takes { OnOk result (TakesIf (S.log seats.old).nodes (action_of (line_of line.now)) (kept_of writer.old None (S.log seats.old)) (kept_of writer.new None (S.log seats.new))) }
-    ensures later { OnOk result (S.later seats.old seats.new) }
+    requires idle { IsIdleActor caller.old.log.nodes (kept_of writer.old None caller.old.log) }
+    requires may { MayCome false caller.old.log.nodes line.now }
+    ensures takes { OnOk result (TakesIf caller.old.log.nodes (action_of (line_of line.now)) (kept_of writer.old None caller.old.log) (kept_of writer.new None caller.new.log)) }
+    ensures later { OnOk result (AreLater W.WireModel caller.old caller.new) }
 {
     match line {
-        ScriptLine::Takeover { .. } => take_task(alloc, writer, seats, Task::Takeover),
-        ScriptLine::Roll { .. } => take_task(alloc, writer, seats, Task::Roll),
-        ScriptLine::Close { .. } => take_task(alloc, writer, seats, Task::Close),
+        ScriptLine::Takeover { .. } => take_task(alloc, writer, caller, Task::Takeover),
+        ScriptLine::Roll { .. } => take_task(alloc, writer, caller, Task::Roll),
+        ScriptLine::Close { .. } => take_task(alloc, writer, caller, Task::Close),
         ScriptLine::Log { bodies, .. } => {
-            take_task(alloc, writer, seats, Task::Log(bodies.share(alloc)?))
+            take_task(alloc, writer, caller, Task::Log(bodies.share(alloc)?))
         }
-        ScriptLine::Purge { min, .. } => take_task(alloc, writer, seats, Task::Purge { min: *min }),
-        ScriptLine::Drop { node, call, .. } => take_mark(seats, *node, *call, false),
-        ScriptLine::Mute { node, call, .. } => take_mark(seats, *node, *call, true),
-        ScriptLine::Late { node, call, .. } => take_late(alloc, seats, *node, *call),
+        ScriptLine::Purge { min, .. } => take_task(
+            alloc,
+            writer,
+            caller,
+            Task::Purge { min: *min },
+        ),
+        ScriptLine::Drop { node, call, .. } => take_mark(caller, *node, *call, false),
+        ScriptLine::Mute { node, call, .. } => take_mark(caller, *node, *call, true),
+        ScriptLine::Late { node, call, .. } => take_late(alloc, caller, *node, *call),
         ScriptLine::Declare { .. }
         | ScriptLine::Kill { .. }
         | ScriptLine::Restart { .. }

@@ -1,5 +1,6 @@
 //! What a standby of a script does: it tails, saves its namespace, and begins again.
 ghost use Rattle.std.specs.Prelude.{◌≡◌, ◌≢◌, false, OnOk, IfOk};
+ghost use Rattle.caller.specs.Callers.{AreLater};
 ghost use Rattle.writer_core.specs.Writer.{is_writing};
 ghost use Rattle.play_names.specs.ResultLists.{tail_texts};
 ghost use Rattle.play_standby.specs.Standbys.{held};
@@ -10,27 +11,27 @@ ghost use Rattle.play_actor.specs.Nodes.{kept_node, kept_resting, is_bad_entry, 
 use crate::actions::say_all;
 use crate::name_node::NameNode;
 use crate::role::Resting;
+use caller::{Caller, CopyWire};
 use journal_core::{Bytes, OutOfMemory};
-use play_calls::Seats;
 use play_names::{Tailed, one_number, tail_results};
 use play_standby::SavedImages;
 use std::alloc::{AllocError, Global};
 
 /// Reads and applies what it lacks.
-pub(crate) fn take_tail<S: Seats>(
+pub(crate) fn take_tail<W: CopyWire>(
     alloc: Global,
     resting: Resting,
     images: SavedImages,
-    seats: &mut S,
+    caller: &mut Caller<W>,
 ) -> Result<NameNode, OutOfMemory>
-    requires idle { IsIdleActor (S.log seats.old).nodes (kept_resting resting.writer images resting.standby (S.log seats.old)) }
+    requires idle { IsIdleActor caller.old.log.nodes (kept_resting resting.writer images resting.standby caller.old.log) }
     requires rests { is_writing resting.writer.phase ≡ false }
-    ensures takes { IfOk result (λ new. TakesAction (S.log seats.old).nodes DoTail (kept_resting resting.writer images resting.standby (S.log seats.old)) (kept_node new (S.log seats.new))) }
-    ensures later { OnOk result (S.later seats.old seats.new) }
+    ensures takes { IfOk result (λ new. TakesAction caller.old.log.nodes DoTail (kept_resting resting.writer images resting.standby caller.old.log) (kept_node new caller.new.log)) }
+    ensures later { OnOk result (AreLater W.WireModel caller.old caller.new) }
 {
     let mut resting = resting;
-    let tailed = resting.standby.tail(alloc, seats, None);
-    say_all(seats, tailed_texts(alloc, &tailed)?)?;
+    let tailed = resting.standby.tail(alloc, caller, None);
+    say_all(caller, tailed_texts(alloc, &tailed)?)?;
     Ok(tailed_node(resting, images, &tailed))
 }
 
@@ -59,40 +60,40 @@ fn tailed_node(resting: Resting, images: SavedImages, tailed: &Tailed) -> NameNo
 }
 
 /// Saves its namespace as an image.
-pub(crate) fn take_checkpoint<S: Seats>(
+pub(crate) fn take_checkpoint<W: CopyWire>(
     alloc: Global,
     resting: Resting,
     images: SavedImages,
-    seats: &mut S,
+    caller: &mut Caller<W>,
 ) -> Result<NameNode, OutOfMemory>
-    requires idle { IsIdleActor (S.log seats.old).nodes (kept_resting resting.writer images resting.standby (S.log seats.old)) }
+    requires idle { IsIdleActor caller.old.log.nodes (kept_resting resting.writer images resting.standby caller.old.log) }
     requires rests { is_writing resting.writer.phase ≡ false }
-    ensures takes { IfOk result (λ new. TakesAction (S.log seats.old).nodes Saves (kept_resting resting.writer images resting.standby (S.log seats.old)) (kept_node new (S.log seats.new))) }
-    ensures later { OnOk result (S.later seats.old seats.new) }
+    ensures takes { IfOk result (λ new. TakesAction caller.old.log.nodes Saves (kept_resting resting.writer images resting.standby caller.old.log) (kept_node new caller.new.log)) }
+    ensures later { OnOk result (AreLater W.WireModel caller.old caller.new) }
 {
     let mut images = images;
     images.save(alloc, &resting.standby)?;
     let position = resting.standby.position();
-    say_all(seats, one_number(alloc, b"checkpoint", position)?)?;
+    say_all(caller, one_number(alloc, b"checkpoint", position)?)?;
     Ok(NameNode::resting(resting, images))
 }
 
 /// Begins again from its newest image, or empty.
-pub(crate) fn take_reload<S: Seats>(
+pub(crate) fn take_reload<W: CopyWire>(
     alloc: Global,
     resting: Resting,
     images: SavedImages,
-    seats: &mut S,
+    caller: &mut Caller<W>,
 ) -> Result<NameNode, OutOfMemory>
-    requires idle { IsIdleActor (S.log seats.old).nodes (kept_resting resting.writer images resting.standby (S.log seats.old)) }
+    requires idle { IsIdleActor caller.old.log.nodes (kept_resting resting.writer images resting.standby caller.old.log) }
     requires rests { is_writing resting.writer.phase ≡ false }
-    ensures takes { IfOk result (λ new. TakesAction (S.log seats.old).nodes Reloads (kept_resting resting.writer images resting.standby (S.log seats.old)) (kept_node new (S.log seats.new))) }
-    ensures later { OnOk result (S.later seats.old seats.new) }
+    ensures takes { IfOk result (λ new. TakesAction caller.old.log.nodes Reloads (kept_resting resting.writer images resting.standby caller.old.log) (kept_node new caller.new.log)) }
+    ensures later { OnOk result (AreLater W.WireModel caller.old caller.new) }
 {
     let mut resting = resting;
     let mut images = images;
     images.load(alloc, &mut resting.standby)?;
     let position = resting.standby.position();
-    say_all(seats, one_number(alloc, b"reload", position)?)?;
+    say_all(caller, one_number(alloc, b"reload", position)?)?;
     Ok(NameNode::resting(resting, images))
 }

@@ -1,6 +1,7 @@
 //! An active name node of a script submits edits one after the other, and logs those that are
 //! admitted as one batch.
 ghost use Rattle.std.specs.Prelude.{◌≡◌, ◌≢◌, true, OnOk, IfOk};
+ghost use Rattle.caller.specs.Callers.{AreLater};
 ghost use Rattle.play_standby.specs.Actives.{is_open};
 ghost use Rattle.play_model.specs.Lines.{Submits};
 ghost use Rattle.play_names.specs.DueTexts.{dues_of};
@@ -12,31 +13,31 @@ ghost use Rattle.play_actor.specs.Submitting.{AreSubmitted, FitsSynced};
 use crate::name_node::NameNode;
 use crate::rounds::end_round;
 use crate::submitted::due_by;
+use caller::{Caller, CopyWire};
 use edit_ops::{Edit, EditList};
 use journal_core::{Bytes, OutOfMemory};
-use play_calls::Seats;
 use play_names::{EditDue, aborted_text, bytes_of, logged_results, lost_results};
 use play_standby::{Active, SavedImages, Synced};
 use std::alloc::{AllocError, Global};
 
 /// Edits are submitted in order, and those that are admitted logged.
-pub(crate) fn take_edits<S: Seats>(
+pub(crate) fn take_edits<W: CopyWire>(
     alloc: Global,
     active: Active,
     images: SavedImages,
-    seats: &mut S,
+    caller: &mut Caller<W>,
     edits: &EditList,
 ) -> Result<NameNode, OutOfMemory>
-    requires idle { IsIdleActor (S.log seats.old).nodes (kept_active images active (S.log seats.old)) }
+    requires idle { IsIdleActor caller.old.log.nodes (kept_active images active caller.old.log) }
     requires serving { IsServing active }
-    ensures takes { IfOk result (λ new. TakesAction (S.log seats.old).nodes (Submits edits.now) (kept_active images active (S.log seats.old)) (kept_node new (S.log seats.new))) }
-    ensures later { OnOk result (S.later seats.old seats.new) }
+    ensures takes { IfOk result (λ new. TakesAction caller.old.log.nodes (Submits edits.now) (kept_active images active caller.old.log) (kept_node new caller.new.log)) }
+    ensures later { OnOk result (AreLater W.WireModel caller.old caller.new) }
 {
     let mut active = active;
     let dues = submit_all(alloc, &mut active, edits.as_slice())?;
-    let synced = active.sync(alloc, seats);
+    let synced = active.sync(alloc, caller);
     let texts = synced_texts(alloc, &dues, &synced)?;
-    end_round(alloc, active, images, seats, texts)
+    end_round(alloc, active, images, caller, texts)
 }
 
 /// Submits edits one after the other; what becomes of each.

@@ -1,5 +1,6 @@
 //! A name node of a script takes over.
 ghost use Rattle.std.specs.Prelude.{◌≡◌, false, OnOk, IfOk};
+ghost use Rattle.caller.specs.Callers.{AreLater};
 ghost use Rattle.writer_core.specs.declared.task.Task.TheVariants as task;
 ghost use Rattle.writer_core.specs.Writer.{is_writing};
 ghost use Rattle.play_names.specs.Holding.{reload_image};
@@ -13,45 +14,45 @@ ghost use Rattle.play_actor.specs.Entries.{texts_entered, writer_entered, holdin
 use crate::actions::say_all;
 use crate::name_node::NameNode;
 use crate::role::Resting;
+use caller::{Caller, CopyWire};
 use journal_core::{Bytes, OutOfMemory};
-use play_calls::Seats;
 use play_names::{aborted_text, behind_text, numbered_text, numbered_twice, once};
 use play_standby::{Active, Entered, SavedImages};
 use std::alloc::{AllocError, Global};
 
 /// A takeover by a standby.
-pub(crate) fn take_takeover<S: Seats>(
+pub(crate) fn take_takeover<W: CopyWire>(
     alloc: Global,
     resting: Resting,
     images: SavedImages,
-    seats: &mut S,
+    caller: &mut Caller<W>,
 ) -> Result<NameNode, OutOfMemory>
-    requires idle { IsIdleActor (S.log seats.old).nodes (kept_resting resting.writer images resting.standby (S.log seats.old)) }
-    ensures takes { IfOk result (λ new. TakesAction (S.log seats.old).nodes (Does task.Takeover) (kept_resting resting.writer images resting.standby (S.log seats.old)) (kept_node new (S.log seats.new))) }
-    ensures later { OnOk result (S.later seats.old seats.new) }
+    requires idle { IsIdleActor caller.old.log.nodes (kept_resting resting.writer images resting.standby caller.old.log) }
+    ensures takes { IfOk result (λ new. TakesAction caller.old.log.nodes (Does task.Takeover) (kept_resting resting.writer images resting.standby caller.old.log) (kept_node new caller.new.log)) }
+    ensures later { OnOk result (AreLater W.WireModel caller.old caller.new) }
 {
     let (writer, standby) = resting.into_parts();
-    let entered = Active::enter(writer, standby, alloc, seats);
+    let entered = Active::enter(writer, standby, alloc, caller);
     let texts = entered_texts(alloc, &entered)?;
     let node = entered_node(alloc, entered, images)?;
-    say_all(seats, texts)?;
+    say_all(caller, texts)?;
     Ok(node)
 }
 
 /// A takeover by one that is active: it gives up its segment, and begins anew.
-pub(crate) fn take_takeover_again<S: Seats>(
+pub(crate) fn take_takeover_again<W: CopyWire>(
     alloc: Global,
     active: Active,
     images: SavedImages,
-    seats: &mut S,
+    caller: &mut Caller<W>,
 ) -> Result<NameNode, OutOfMemory>
-    requires idle { IsIdleActor (S.log seats.old).nodes (kept_active images active (S.log seats.old)) }
+    requires idle { IsIdleActor caller.old.log.nodes (kept_active images active caller.old.log) }
     requires serving { IsServing active }
-    ensures takes { IfOk result (λ new. TakesAction (S.log seats.old).nodes (Does task.Takeover) (kept_active images active (S.log seats.old)) (kept_node new (S.log seats.new))) }
-    ensures later { OnOk result (S.later seats.old seats.new) }
+    ensures takes { IfOk result (λ new. TakesAction caller.old.log.nodes (Does task.Takeover) (kept_active images active caller.old.log) (kept_node new caller.new.log)) }
+    ensures later { OnOk result (AreLater W.WireModel caller.old caller.new) }
 {
     let (standby, writer) = active.quit(alloc)?;
-    take_takeover(alloc, Resting { writer, standby }, images, seats)
+    take_takeover(alloc, Resting { writer, standby }, images, caller)
 }
 
 /// What a takeover says; an `Err` where memory was wanting in it.

@@ -1,32 +1,25 @@
 -- A caller's record goes along with the lists of its pipes, and with what was heard ahead.
 use Rattle.std.proofs.Common.{◌≡◌, ◌≢◌, ⊎_elim, ℕ, suc, zero, ◌+◌, ◌-◌, ◌<◌, ◌≤◌, ◌==◌, Bool, true, false, List, [], ◌∷◌, ◌++◌, length, map, refl, sym, ap, ◌∙◌, subst, arith}
 use Rattle.std.proofs.Common.{get_or, set, cond, append-nil}
-use Rattle.std.specs.Prelude.{Result, Ok, Err, IfOk, OnOk, Option, Some, None, IfSome}
+use Rattle.std.specs.Prelude.{Ok, Option, Some, None, IfSome}
 use Rattle.std.specs.List.{All, remove}
 use Rattle.std.proofs.lemmas.List.{append_assoc, length-set, get_or-set_same, get_or-set_other}
 use Rattle.journal_core.specs.declared.request.Request.{Request}
 use Rattle.journal_core.specs.declared.heard.Heard.{Heard}
 use Rattle.journal_core.specs.declared.peer_call.PeerCall.{PeerCall}
-use Rattle.journal_core.specs.declared.reply.Reply.{Reply}
 use Rattle.journal_core.specs.Peers.{FitsHeard}
 use Rattle.journal_history.specs.Same.{same_request}
 use Rattle.journal_history.proofs.SameLaws.{request_same}
-use Rattle.journal_history.specs.declared.node_ask.NodeAnswer.TheVariants.{Replied, Done}
 use Rattle.journal_history.specs.declared.record.Record.TheVariants.{Call, Outcome}
 use Rattle.journal_history.specs.declared.record.Told.{Told}
 use Rattle.journal_history.specs.declared.record.Told.TheVariants as told
 use Rattle.mesh.specs.Matches.{reaches}
 use Rattle.mesh.proofs.Lists.{cond_true, cond_false, same_test, other_test}
-use Rattle.play_calls.specs.declared.delivery.Delivery.TheVariants.{Delivered}
-use Rattle.play_calls.specs.Deliveries.{told_of}
-use Rattle.play_calls.specs.Logs.{LogView, with_line, IsCalled}
-use Rattle.play_calls.specs.Made.{MakesCalls}
-use Rattle.play_calls.proofs.CallLists.{makes_one}
+use Rattle.play_calls.specs.Logs.{LogView, with_line}
 use Rattle.play_pipes.specs.Calls.{Calls, Answer, gained}
 use Rattle.play_pipes.specs.Desks.{AreNodes}
 use Rattle.play_pipes.specs.PipeLines.{Stands}
-use Rattle.play_pipes.specs.PipeSeats.{asked_calls, round_calls, ahead_at, Leads, HearsAhead, HearsOne, Gains, TiedTo, PipesGo}
-use Rattle.play_threads.specs.Seated.{IsTold}
+use Rattle.play_pipes.specs.PipeSeats.{asked_calls, round_calls, ahead_at, Leads, HearsAhead, HearsOne, LeadsOn, TiedTo}
 use Rattle.play_pipes.proofs.DeskLaws.{same_or}
 use Rattle.play_pipes.proofs.PipeLineLaws.{told_more, told_off}
 use Rattle.play_threads.proofs.SeatLaws.{outcome_apart}
@@ -222,7 +215,7 @@ dropped : (node : ℕ) (r : Request) (k : ℕ) → reaches k (Call node r told.D
 unfolding reaches
 dropped node r k = refl
 
-heard_tied : (log : LogView) (node : ℕ) (r : Request) (t : Told) (heard : Heard) (ahead : List PeerCall) (lists : List Calls) (ahead' : List PeerCall) (lists' : List Calls) → 1 ≤ node
+pub heard_tied : (log : LogView) (node : ℕ) (r : Request) (t : Told) (heard : Heard) (ahead : List PeerCall) (lists : List Calls) (ahead' : List PeerCall) (lists' : List Calls) → 1 ≤ node
     → node ≤ log.nodes → t ≢ told.Dropped → Stands t heard → HearsOne node r heard ahead lists ahead' lists' → TiedTo log ahead lists → TiedTo (with_line log (Call node r t)) ahead' lists'
 heard_tied log node r t heard ahead lists ahead' lists' low high not s hears tied =
     let many = tied.count in
@@ -233,92 +226,19 @@ heard_tied log node r t heard ahead lists ahead' lists' low high not s hears tie
       told = told_more log.past tied.fronts node (Call node r t) r heard low (omega (arith, high, many)) (here node r t not) (else node r t) (refl, s) tied.told;
     }
 
-tied_call : (log : LogView) (node : ℕ) (r : Request) (t : Told) (ahead : List PeerCall) (lists : List Calls) (ahead' : List PeerCall) (lists' : List Calls) → 1 ≤ node → node ≤ log.nodes
-    → Gains node r t ahead lists ahead' lists' → TiedTo log ahead lists → TiedTo (with_line log (Call node r t)) ahead' lists'
-tied_call log node r told.Dropped ahead lists ahead' lists' low high g tied =
-    record {
-      fronts = tied.fronts;
-      leads = subst (λ (p : List PeerCall × List Calls). Leads tied.fronts p.0 p.1) (λ i. (sym g.1 i, sym g.0 i)) tied.leads;
-      count = tied.count;
-      told = told_off log.past tied.fronts (Call node r told.Dropped) (dropped node r) tied.told;
-    }
-tied_call log node r (told.Reply reply) ahead lists ahead' lists' low high g tied =
-    heard_tied log node r (told.Reply reply) g.0 ahead lists ahead' lists' low high (λ f. cc f) g.1 g.2 tied
-tied_call log node r told.Muted ahead lists ahead' lists' low high g tied = heard_tied log node r told.Muted g.0 ahead lists ahead' lists' low high (λ f. cc f) g.1 g.2 tied
-tied_call log node r told.Silent ahead lists ahead' lists' low high g tied = heard_tied log node r told.Silent g.0 ahead lists ahead' lists' low high (λ f. cc f) g.1 g.2 tied
+-- a call that was dropped
+pub dropped_tied : (log : LogView) (node : ℕ) (r : Request) (ahead : List PeerCall) (lists : List Calls) → TiedTo log ahead lists → TiedTo (with_line log (Call node r told.Dropped)) ahead lists
+dropped_tied log node r ahead lists tied =
+    record { fronts = tied.fronts; leads = tied.leads; count = tied.count; told = told_off log.past tied.fronts (Call node r told.Dropped) (dropped node r) tied.told }
 
-pub pipes_go : (log new : LogView) (node : ℕ) (r : Request) (t : Told) (ahead : List PeerCall) (lists : List Calls) (ahead' : List PeerCall) (lists' : List Calls) → 1 ≤ node → node ≤ log.nodes
-    → Gains node r t ahead lists ahead' lists' → log.whole ≡ true → new ≡ with_line log (Call node r t) → PipesGo log ahead lists new ahead' lists'
-pipes_go log new node r t ahead lists ahead' lists' low high gains whole e =
-    record {
-      nodes = ap (λ l. l.nodes) e;
-      same = λ _. (whole, λ tied. subst (λ l. TiedTo l ahead' lists') (sym e) (tied_call log node r t ahead lists ahead' lists' low high gains tied));
-    }
+-- a result is listed
+pub said_tied : (log : LogView) (ahead : List PeerCall) (lists : List Calls) (text : List ℕ) → TiedTo log ahead lists → TiedTo (with_line log (Outcome text)) ahead lists
+said_tied log ahead lists text tied =
+    record { fronts = tied.fronts; leads = tied.leads; count = tied.count; told = told_off log.past tied.fronts (Outcome text) (λ k. outcome_apart k text) tied.told }
 
 -- a round is announced
-pub announced : (log : LogView) (ahead ahead' : List PeerCall) (old new : List Calls) → ahead ≡ [] → HearsAhead old ahead' new → PipesGo log ahead old log ahead' new
-announced log ahead ahead' old new none more =
-    record {
-      nodes = refl;
-      same = λ w. (
-        w,
-        λ tied.
-            record {
-              fronts = tied.fronts;
-              leads = more tied.fronts (subst (λ a. Leads tied.fronts a old) none tied.leads);
-              count = tied.count;
-              told = tied.told;
-            },
-      );
-    }
-
--- ## What is told
-pub told_reply : (reply : Reply) → IsTold Delivered (told.Reply reply)
-unfolding told_of
-told_reply reply = record { answer = Replied reply; is = refl }
-
-pub told_silent : IsTold Delivered told.Silent
-unfolding told_of
-told_silent = record { answer = Done; is = refl }
-
-pub gains_heard : (node : ℕ) (r : Request) (t : Told) (heard : Heard) (ahead : List PeerCall) (lists : List Calls) (ahead' : List PeerCall) (lists' : List Calls) → Stands t heard
-    → HearsOne node r heard ahead lists ahead' lists' → Gains node r t ahead lists ahead' lists'
-gains_heard node r (told.Reply reply) heard ahead lists ahead' lists' s h = (heard, s, h)
-gains_heard node r told.Dropped heard ahead lists ahead' lists' s h = absurd s
-gains_heard node r told.Muted heard ahead lists ahead' lists' s h = (heard, s, h)
-gains_heard node r told.Silent heard ahead lists ahead' lists' s h = (heard, s, h)
-
--- a call was made
-pub made : {E X Y : Type 0} (res : Result Heard E) (name : X) (starts starts' : Y) (old new : LogView) (node : ℕ) (r : Request) (ahead : List PeerCall) (lists : List Calls) (ahead' : List PeerCall)
-    (lists' : List Calls) → starts' ≡ starts → OnOk res (PipesGo old ahead lists new ahead' lists') → IfOk res (λ heard. IsCalled old node r heard new)
-    → OnOk res (((name ≡ name) × (starts' ≡ starts) × PipesGo old ahead lists new ahead' lists') × MakesCalls old new)
-made (Ok heard) name starts starts' old new node r ahead lists ahead' lists' e go is = ((refl, e, go), makes_one old new node r heard is)
-made (Err x) name starts starts' old new node r ahead lists ahead' lists' e go is = tt
-
--- ## A result is listed
-on_ok : {A E : Type 0} {P Q : Type 0} (r : Result A E) → (P → Q) → OnOk r P → OnOk r Q
-on_ok (Ok a) f h = f h
-on_ok (Err e) f h = tt
-
-pub said_go : (log new : LogView) (ahead : List PeerCall) (lists : List Calls) (text : List ℕ) → new ≡ with_line log (Outcome text) → PipesGo log ahead lists new ahead lists
-said_go log new ahead lists text e =
-    record {
-      nodes = ap (λ l. l.nodes) e;
-      same = λ w. (
-        sym (ap (λ l. l.whole) e) ∙ w,
-        λ tied.
-            subst (λ l. TiedTo l ahead lists) (sym e) (record {
-              fronts = tied.fronts;
-              leads = tied.leads;
-              count = tied.count;
-              told = told_off log.past tied.fronts (Outcome text) (λ k. outcome_apart k text) tied.told;
-            }),
-      );
-    }
-
-pub said : {A E X Y : Type 0} (r : Result A E) (name : X) (starts : Y) (log new : LogView) (ahead : List PeerCall) (lists : List Calls) (text : List ℕ)
-    → OnOk r (new ≡ with_line log (Outcome text)) → OnOk r ((name ≡ name) × (starts ≡ starts) × PipesGo log ahead lists new ahead lists)
-said r name starts log new ahead lists text h = on_ok r (λ e. (refl, refl, said_go log new ahead lists text e)) h
+pub announced : (ahead ahead' : List PeerCall) (old new : List Calls) → ahead ≡ [] → HearsAhead old ahead' new → LeadsOn ahead old ahead' new
+announced ahead ahead' old new none more fronts l = more fronts (subst (λ a. Leads fronts a old) none l)
 
 pub ruleset hears = (hears_ahead, hears_taken, hears_asked, one_node)
 

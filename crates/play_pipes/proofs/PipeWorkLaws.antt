@@ -18,7 +18,7 @@ use Rattle.play_pipes.specs.Calls.{Calls, joined}
 use Rattle.play_pipes.proofs.KeptLaws.{parts_same}
 use Rattle.play_threads.specs.Gathered.{CallerLeaves}
 use Rattle.play_pipes.specs.PipeLines.{calls_at, OnlyCalls, Tells, AreTold, place_of, calls_of_seat, AreFresh}
-use Rattle.play_pipes.specs.PipeSeats.{Leads, TiedTo, PipesGo}
+use Rattle.play_pipes.specs.PipeSeats.{Leads, TiedTo}
 use Rattle.play_pipes.specs.PipeWork.{HasWorked}
 use Rattle.play_threads.specs.Seated.{Seat, AreSeated}
 use Rattle.play_threads.specs.Threads.{DoesLines, FollowsActions}
@@ -52,21 +52,22 @@ told_lists log ahead lists none t =
 
 module _ (named : Bool) (n : ℕ) (actions : List Action) (left : Option (List Record × List Mark × Option LastSpace)) (old new : LogView) (ahead ahead' : List PeerCall)
     (lists start lists' : List Calls) (last : Option LastSpace) where
-  pub worked : old ≡ new_log n true → ahead ≡ [] → lists ≡ start → length start ≡ n → All (λ (l : Calls). l ≡ []) start → PipesGo old ahead lists new ahead' lists' → new.whole ≡ true → ahead' ≡ []
+  pub worked : old ≡ new_log n true → ahead ≡ [] → lists ≡ start → length start ≡ n → All (λ (l : Calls). l ≡ []) start → new.nodes ≡ old.nodes → (TiedTo old ahead lists → TiedTo new ahead' lists') → new.whole ≡ true
+      → ahead' ≡ []
       → FollowsActions named old.nodes actions new.past new.marks last → left ≡ Some (new.past, new.marks, last) → (new.whole ≡ true → IsMarked new.marks [] new.past)
       → (new.whole ≡ true → AreCopied new.marks new.past) → (new.whole ≡ true → AreWithin new.nodes new.past) → HasWorked named n actions left lists'
-  worked e none f long all go whole done d is m c w =
-      let tied = (go.same whole).1 (tied_begin old n ahead lists start e none f long all) in
+  worked e none f long all nodes go whole done d is m c w =
+      let tied = go (tied_begin old n ahead lists start e none f long all) in
       let told = told_lists new ahead' lists' done tied in
       let count : old.nodes ≡ n = ap (λ l. l.nodes) e in
       record {
         log = new;
         last = last;
         whole = whole;
-        count = go.nodes ∙ count;
+        count = nodes ∙ count;
         is_left = is;
         follows = subst (λ k. FollowsActions named k actions new.past new.marks last) count d;
-        long = told.0 ∙ go.nodes ∙ count;
+        long = told.0 ∙ nodes ∙ count;
         told = told.1;
         marked = m whole;
         copied = c whole;

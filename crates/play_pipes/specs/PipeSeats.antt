@@ -1,15 +1,13 @@
--- A caller's record goes along with what the lines of its pipes list, and with what was heard
--- ahead of its calls.
-use Rattle.std.specs.Prelude.{◌≡◌, ℕ, ◌+◌, ◌<◌, ◌==◌, true, List, [], ◌∷◌, ◌++◌, length, slice_index_or, if◌then◌else◌, Ok, Option, Some, None, refl}
-use Rattle.std.proofs.Common.{◌∙◌}
+-- The wire over a desk of pipes: a caller's record goes along with what the lines of its pipes list,
+-- and with what was heard ahead of its calls.
+use Rattle.std.specs.Prelude.{◌≡◌, ℕ, ◌+◌, ◌<◌, ◌==◌, List, [], ◌∷◌, ◌++◌, length, slice_index_or, if◌then◌else◌, Ok, Option, Some, None}
 use Rattle.journal_core.specs.declared.request.Request.{Request}
 use Rattle.journal_core.specs.declared.heard.Heard.{Heard}
 use Rattle.journal_core.specs.declared.peer_call.PeerCall.{PeerCall}
-use Rattle.journal_history.specs.declared.record.Told.{Told}
-use Rattle.journal_history.specs.declared.record.Told.TheVariants as told
 use Rattle.play_calls.specs.Logs.{LogView}
-use Rattle.play_pipes.specs.Calls.{Calls, gained}
-use Rattle.play_pipes.specs.PipeLines.{Stands, AreTold}
+use Rattle.caller.specs.declared.wire.WireModel.{Ghosts}
+use Rattle.play_pipes.specs.Calls.{Calls, Start, gained}
+use Rattle.play_pipes.specs.PipeLines.{AreTold}
 
 -- ## Calls ahead
 -- a round's calls that were asked ahead: of these nodes, with this request, of whom this was heard
@@ -43,12 +41,19 @@ LeadsOn ahead old ahead' new = (fronts : List Calls) → Leads fronts ahead old 
 abbrev pub HearsOne : ℕ → Request → Heard → List PeerCall → List Calls → List PeerCall → List Calls → Type 0
 HearsOne node r heard ahead old ahead' new = (fronts : List Calls) → Leads fronts ahead old → Leads (gained (node ∷ []) r (Ok heard ∷ []) fronts) ahead' new
 
--- what the lists gain by a call that is told so
-abbrev pub Gains : ℕ → Request → Told → List PeerCall → List Calls → List PeerCall → List Calls → Type 0
-Gains node r told.Dropped ahead old ahead' new = (new ≡ old) × (ahead' ≡ ahead)
-Gains node r (told.Reply reply) ahead old ahead' new = (heard : Heard) × Stands (told.Reply reply) heard × HearsOne node r heard ahead old ahead' new
-Gains node r told.Muted ahead old ahead' new = (heard : Heard) × Stands told.Muted heard × HearsOne node r heard ahead old ahead' new
-Gains node r told.Silent ahead old ahead' new = (heard : Heard) × Stands told.Silent heard × HearsOne node r heard ahead old ahead' new
+-- ## The wire
+-- a wire over a desk, of which this is seen: what each of its lines had listed at first, what each
+-- listed since, and what was heard ahead
+module _ {W : Type 0} (starts : W → List Start) (lists : W → List Calls) (ahead : W → List PeerCall) where
+  abbrev pub desk_wire : Ghosts W
+  desk_wire = record {
+    nodes = λ w. length (starts w);
+    carries = λ node r heard old new. (starts new ≡ starts old) × HearsOne node r heard (ahead old) (lists old) (ahead new) (lists new);
+    skips = λ node old new. new ≡ old;
+    copies = λ node r old new. ⊥;
+    operates = λ node ask done old new. ⊥;
+    readies = λ old new. (starts new ≡ starts old) × LeadsOn (ahead old) (lists old) (ahead new) (lists new);
+  }
 
 -- ## The record and the lists
 -- a list for each node, and the record says what they say but for what was heard ahead
@@ -57,14 +62,3 @@ pub record TiedTo (log : LogView) (ahead : List PeerCall) (lists : List Calls) :
   pub leads : Leads fronts ahead lists
   pub count : length fronts ≡ log.nodes
   pub told : AreTold log.past fronts
-
-pub record PipesGo (old : LogView) (ahead : List PeerCall) (lists : List Calls) (new : LogView) (ahead' : List PeerCall) (lists' : List Calls) : Type 0 where
-  pub nodes : new.nodes ≡ old.nodes
-  pub same : new.whole ≡ true → (old.whole ≡ true) × (TiedTo old ahead lists → TiedTo new ahead' lists')
-
-pub go_same : (log : LogView) (ahead : List PeerCall) (lists : List Calls) → PipesGo log ahead lists log ahead lists
-go_same log ahead lists = record { nodes = refl; same = λ w. (w, λ tied. tied) }
-
-pub go_on : (a : LogView) (ahead : List PeerCall) (xs : List Calls) (b : LogView) (ahead' : List PeerCall) (ys : List Calls) (c : LogView) (ahead'' : List PeerCall) (zs : List Calls)
-    → PipesGo a ahead xs b ahead' ys → PipesGo b ahead' ys c ahead'' zs → PipesGo a ahead xs c ahead'' zs
-go_on a ahead xs b ahead' ys c ahead'' zs g h = record { nodes = h.nodes ∙ g.nodes; same = λ w. let s = h.same w in let r = g.same s.0 in (r.0, λ tied. s.1 (r.1 tied)) }

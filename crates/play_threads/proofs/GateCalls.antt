@@ -1,21 +1,13 @@
 -- A call through one of the gates of a wire: the wire's seats before and after.
-use Rattle.std.proofs.Common.{◌≡◌, ℕ, ◌-◌, ◌≤◌, List, [], ◌∷◌, ◌++◌, true, false, refl, sym, ap, subst, ◌∙◌, length, map, set, get_or}
+use Rattle.std.proofs.Common.{◌≡◌, ℕ, ◌-◌, ◌≤◌, List, [], ◌∷◌, ◌++◌, refl, sym, ap, subst, ◌∙◌, length, map, set, get_or}
 use Rattle.std.proofs.lemmas.List.{map-set}
 use Rattle.std.proofs.Math.ListN.{get_or-map}
 use Rattle.atomic_table.specs.Seated.{TableId}
 use Rattle.journal_history.specs.declared.node_ask.NodeAsk.{NodeAsk}
 use Rattle.journal_history.specs.declared.node_ask.NodeAnswer.{NodeAnswer}
-use Rattle.play_calls.specs.Logs.{LogView}
-use Rattle.play_threads.specs.Seated.{Seat, AreSeated}
+use Rattle.play_threads.specs.Seated.{Seat}
 use Rattle.play_threads.specs.GateWires.{GatesView, AreAt, Adds}
-use Rattle.play_threads.proofs.SeatLaws.{own_table, seated_on, goes_lost}
-
--- a log of which nothing is known
-abbrev lost : ℕ → LogView
-lost n = record { nodes = n; past = []; marks = []; whole = false }
-
-at_lost : (c : ℕ) (ts : List TableId) (seats : List Seat) → AreAt c ts seats → AreSeated c ts (lost (length seats)) seats
-at_lost c ts seats h = record { count = refl; gates = h.gates; callers = h.callers; same = λ w. absurd (cc w) }
+use Rattle.play_threads.proofs.SeatLaws.{own_table, set_at}
 
 abbrev pub at_gates : ℕ → List TableId → List Seat → GatesView
 at_gates c ts seats = record { caller = c; tables = ts; seats = seats }
@@ -27,14 +19,12 @@ module _ {G S : Type 0} (table : G → TableId) (seat : S → Seat) (gates : Lis
   within = subst (λ (x : GatesView). node ≤ length x.seats) (sym is_view) high
 
   pub own_at : (d : G) → (seat s).table ≡ table (get_or gates (node - 1) d)
-  own_at d = own_table table seat gates seats c node (lost (length (map seat seats))) s d low within (at_lost c (map table gates) (map seat seats) h) is
+  own_at d = own_table table seat gates seats node s d low within h.gates is
 
   pub still_at : (t : S) → (seat t).table ≡ (seat s).table → (seat t).caller ≡ (seat s).caller → AreAt c (map table gates) (map seat (set seats (node - 1) t))
   still_at t same same2 =
-      let n : ℕ = length (map seat seats) in
-      let g = seated_on table seat gates seats c node (lost n) (lost n) s t low within (at_lost c (map table gates) (map seat seats) h) is same same2
-      (goes_lost node (lost n) (lost n) (seat s).own (seat t).own refl refl) in
-      record { gates = g.gates; callers = g.callers }
+      let there : seat s ≡ get_or (map seat seats) (node - 1) (seat s) = ap seat is ∙ sym (get_or-map seat seats (node - 1) s) in
+      subst (AreAt c (map table gates)) (sym (map-set seat seats (node - 1) t)) (set_at c (map table gates) (map seat seats) node (seat s) (seat t) low within h there same same2)
 
   pub adds_at : (t : S) (ask : NodeAsk) (a : NodeAnswer) → (seat t).table ≡ (seat s).table → (seat t).caller ≡ (seat s).caller
       → (seat t).own ≡ (seat s).own ++ record { caller = (seat s).caller; ask = ask; answer = a } ∷ []

@@ -1,9 +1,7 @@
 -- What the lines of a caller through gates did to its seats: each has seen of its caller just what
 -- the record says of its node.
-use Rattle.std.proofs.Common.{◌≡◌, ℕ, ◌+◌, ◌-◌, ◌<◌, ◌≤◌, List, [], ◌∷◌, ◌++◌, Bool, true, false, refl, sym, ap, subst, ◌∙◌, length, map, set, get_or, append_assoc, append-nil}
+use Rattle.std.proofs.Common.{◌≡◌, ℕ, ◌+◌, ◌-◌, ◌≤◌, List, [], ◌∷◌, ◌++◌, true, false, refl, sym, ap, subst, ◌∙◌, length, set, get_or, append_assoc, append-nil}
 use Rattle.journal_core.specs.declared.request.Request.{Request}
-use Rattle.journal_core.specs.declared.heard.Heard.{Heard}
-use Rattle.journal_core.specs.declared.heard.Heard.TheVariants.{Answer, Silent}
 use Rattle.journal_history.specs.declared.node_ask.NodeAnswer.{NodeAnswer}
 use Rattle.journal_history.specs.declared.node_ask.NodeAsk.{NodeAsk}
 use Rattle.journal_history.specs.declared.node_ask.NodeAsk.TheVariants.{Act}
@@ -12,16 +10,13 @@ use Rattle.journal_history.specs.declared.record.Record.{Record}
 use Rattle.journal_history.specs.declared.record.Record.TheVariants.{Call, Late, Operator, Outcome}
 use Rattle.journal_history.specs.declared.record.Told.{Told}
 use Rattle.journal_history.specs.declared.record.Told.TheVariants as told
-use Rattle.play_calls.specs.declared.delivery.Delivery.TheVariants.{Delivered}
-use Rattle.play_calls.specs.Deliveries.{told_of}
 use Rattle.play_calls.specs.Logs.{LogView, new_log, with_line}
 use Rattle.play_calls.proofs.ToldLaws.{reply_told, silent_told}
 use Rattle.mesh.specs.Matches.{reaches, reached, AreSame}
 use Rattle.mesh.proofs.Tied.{reached_off}
-use Rattle.caller.specs.declared.wire.WireModel.{Ghosts}
 use Rattle.caller.specs.Callers.{CallerView, CallGoes, LineGoes, LinesGo, AreLater}
-use Rattle.play_threads.specs.Seated.{Seat, AreSeated, IsTied, Goes}
-use Rattle.play_threads.specs.GateWires.{GatesView, Adds, Carries, Copies, Operates}
+use Rattle.play_threads.specs.Seated.{Seat, AreSeated, IsTied}
+use Rattle.play_threads.specs.GateWires.{GatesView, Adds, gate_wire}
 use Rattle.play_threads.proofs.SeatLaws.{tied_muted, tied_heard, tied_late, tied_operated, goes_with, call_apart, late_apart, operator_apart, goes_seated, quiet_seated, outcome_apart}
 
 -- the seats of this caller at these gates have seen just what this log says
@@ -54,62 +49,57 @@ dropped_off : (k node : ℕ) (r : Request) → reaches k (Call node r told.Dropp
 unfolding reaches
 dropped_off k node r = refl
 
-module _ (w : Ghosts GatesView) (nodes : (v : GatesView) → w.nodes v ≡ length v.seats)
-    (carries : (node : ℕ) (r : Request) (h : Heard) (old new : GatesView) → w.carries node r h old new → Carries node r h old new)
-    (skips : (node : ℕ) (old new : GatesView) → w.skips node old new → new ≡ old)
-    (copies : (node : ℕ) (r : Request) (old new : GatesView) → w.copies node r old new → Copies node r old new)
-    (operates : (node : ℕ) (ask : NodeAsk) (done : Bool) (old new : GatesView) → w.operates node ask done old new → Operates node ask done old new)
-    (readies : (old new : GatesView) → w.readies old new → new ≡ old) (c : ℕ) (ts : List TableId) where
-  call_seated : (node : ℕ) (r : Request) (t : Told) (log : LogView) (old new : GatesView) → 1 ≤ node → node ≤ length old.seats → IsSeatedAt c ts log old → CallGoes w node r t old new
+module _ (c : ℕ) (ts : List TableId) where
+  call_seated : (node : ℕ) (r : Request) (t : Told) (log : LogView) (old new : GatesView) → 1 ≤ node → node ≤ length old.seats → IsSeatedAt c ts log old → CallGoes gate_wire node r t old new
       → IsSeatedAt c ts (with_line log (Call node r t)) new
   call_seated node r (told.Reply reply) log old new low high h g =
-      let x = carries node r (Answer reply) old new g in
+      let x = g in
       adds_seated c ts node (Act false r) x.answer (Call node r (told.Reply reply)) log old new low high h x.adds
       (tied_heard node x.adds.before.caller r x.answer (told.Reply reply) x.adds.before.own x.adds.after.own (reply_told x.answer reply x.heard_is) x.kind x.adds.own)
       (λ k off. call_apart k node r (told.Reply reply) off)
   call_seated node r told.Silent log old new low high h g =
-      let x = carries node r Silent old new g in
+      let x = g in
       adds_seated c ts node (Act false r) x.answer (Call node r told.Silent) log old new low high h x.adds
       (tied_heard node x.adds.before.caller r x.answer told.Silent x.adds.before.own x.adds.after.own (silent_told x.answer x.heard_is) x.kind x.adds.own)
       (λ k off. call_apart k node r told.Silent off)
   call_seated node r told.Muted log old new low high h g =
-      let x = carries node r g.0 old new g.1 in
+      let x = g.1 in
       adds_seated c ts node (Act false r) x.answer (Call node r told.Muted) log old new low high h x.adds
       (tied_muted node x.adds.before.caller r x.answer x.adds.before.own x.adds.after.own x.adds.own)
       (λ k off. call_apart k node r told.Muted off)
   call_seated node r told.Dropped log old new low high h g =
-      subst (λ (v : GatesView). IsSeatedAt c ts (with_line log (Call node r told.Dropped)) v) (sym (skips node old new g))
+      subst (λ (v : GatesView). IsSeatedAt c ts (with_line log (Call node r told.Dropped)) v) (sym g)
       (quiet_line c ts (Call node r told.Dropped) log old (λ k. dropped_off k node r) h)
 
-  line_seated : (line : Record) (log : LogView) (old new : GatesView) → IsSeatedAt c ts log old → LineGoes w line old new → IsSeatedAt c ts (with_line log line) new
-  line_seated (Call node r t) log old new h g = call_seated node r t log old new g.0 (subst (λ n. node ≤ n) (nodes old) g.1) h g.2
+  line_seated : (line : Record) (log : LogView) (old new : GatesView) → IsSeatedAt c ts log old → LineGoes gate_wire line old new → IsSeatedAt c ts (with_line log line) new
+  line_seated (Call node r t) log old new h g = call_seated node r t log old new g.0 g.1 h g.2
   line_seated (Late node r) log old new h g =
-      let x = copies node r old new g.2 in
-      adds_seated c ts node (Act true r) x.answer (Late node r) log old new g.0 (subst (λ n. node ≤ n) (nodes old) g.1) h x.adds
+      let x = g.2 in
+      adds_seated c ts node (Act true r) x.answer (Late node r) log old new g.0 g.1 h x.adds
       (tied_late node x.adds.before.caller r x.answer x.adds.before.own x.adds.after.own x.adds.own)
       (λ k off. late_apart k node r off)
   line_seated (Operator node ask done) log old new h g =
-      let x = operates node ask done old new g.2 in
+      let x = g.2 in
       let own = x.adds.before.own in
       let own2 = x.adds.after.own in
-      adds_seated c ts node ask x.answer (Operator node ask done) log old new g.0 (subst (λ n. node ≤ n) (nodes old) g.1) h x.adds
+      adds_seated c ts node ask x.answer (Operator node ask done) log old new g.0 g.1 h x.adds
       (subst (λ d. IsTied node (Operator node ask d) own own2) (sym x.done_is) (tied_operated node x.adds.before.caller ask x.answer own own2 x.operation x.fits x.adds.own))
       (λ k off. operator_apart k node ask done off)
   line_seated (Outcome text) log old new h g =
       subst (λ (v : GatesView). IsSeatedAt c ts (with_line log (Outcome text)) v) (sym g) (quiet_line c ts (Outcome text) log old (λ k. outcome_apart k text) h)
 
-  lines_seated : (log : LogView) (lines past : List Record) (old new : GatesView) → IsSeatedAt c ts (with_past log past) old → LinesGo w lines old new → IsSeatedAt c ts (with_past log (past ++ lines)) new
+  lines_seated : (log : LogView) (lines past : List Record) (old new : GatesView) → IsSeatedAt c ts (with_past log past) old → LinesGo gate_wire lines old new → IsSeatedAt c ts (with_past log (past ++ lines)) new
   unfolding LinesGo
   lines_seated log [] past old new h g =
       subst (λ (ps : List Record). IsSeatedAt c ts (with_past log ps) new) (sym (append-nil past))
-      (subst (λ (v : GatesView). IsSeatedAt c ts (with_past log past) v) (sym (readies old new g)) h)
+      (subst (λ (v : GatesView). IsSeatedAt c ts (with_past log past) v) (sym g) h)
   lines_seated log (line ∷ lines) past old new h g =
       let one : IsSeatedAt c ts (with_past log (past ++ line ∷ [])) g.after =
-      line_seated line (with_past log past) g.ahead g.after (subst (λ (v : GatesView). IsSeatedAt c ts (with_past log past) v) (sym (readies old g.ahead g.readied)) h) g.went in
+      line_seated line (with_past log past) g.ahead g.after (subst (λ (v : GatesView). IsSeatedAt c ts (with_past log past) v) (sym g.readied) h) g.went in
       subst (λ (ps : List Record). IsSeatedAt c ts (with_past log ps) new) (append_assoc past (line ∷ []) lines) (lines_seated log lines (past ++ line ∷ []) g.after new one g.rest)
 
   -- where the seats had seen just what the record said, they have some lines later
-  pub gates_go : (s t : CallerView GatesView) → s.log.whole ≡ true → IsSeatedAt c ts s.log s.wire → AreLater w s t → IsSeatedAt c ts t.log t.wire
+  pub gates_go : (s t : CallerView GatesView) → s.log.whole ≡ true → IsSeatedAt c ts s.log s.wire → AreLater gate_wire s t → IsSeatedAt c ts t.log t.wire
   gates_go s t whole h a =
       let g : IsSeatedAt c ts (with_past s.log (s.log.past ++ a.lines)) t.wire = lines_seated s.log a.lines s.log.past s.wire t.wire h a.went in
       record {

@@ -1,9 +1,9 @@
 -- What a caller finds of its own at its gates goes along with its record.
 use Rattle.std.proofs.Common.{◌≡◌, ℕ, suc, ◌+◌, ◌-◌, ◌<◌, ◌≤◌, ◌==◌, List, [], ◌∷◌, ◌++◌, length, map, filter, Bool, true, false, cond, refl, sym, ap}
 use Rattle.std.proofs.Common.{◌∙◌, subst, set, get_or, arith, inl, inr, append-nil, length-append}
-use Rattle.std.specs.Prelude.{Result, Ok, Err, IfOk, OnOk, OnErr}
+use Rattle.std.specs.Prelude.{Result, Ok, Err, IfOk, OnErr}
 use Rattle.std.proofs.lemmas.Bool.Decides.{eqb_tells}
-use Rattle.std.proofs.lemmas.List.{length-set, length-map, map-append, map-set, get_or-set_same, get_or-set_other, get_or_default}
+use Rattle.std.proofs.lemmas.List.{length-set, length-map, map-append, get_or-set_same, get_or-set_other, get_or_default}
 use Rattle.std.proofs.lemmas.List.Elements.{filter-append}
 use Rattle.std.proofs.Math.Seq.{map-set_same}
 use Rattle.std.proofs.Math.ListN.{get_or-map}
@@ -26,11 +26,11 @@ use Rattle.mesh.specs.Matches.{reaches, reached, lines_of, IsSame, AreSame, Stan
 use Rattle.mesh.proofs.Lists.{cond_true, same_test, other_test}
 use Rattle.mesh.proofs.Tied.{reached_at, reached_off, same_snoc}
 use Rattle.play_threads.specs.Entries.{Entry, line_of, own_lines, IsReplyOrStop, IsDoneOrIdle, FitsAsk}
-use Rattle.play_calls.specs.declared.delivery.Delivery.TheVariants.{Delivered, ReplyLost, NotDelivered}
+use Rattle.play_calls.specs.declared.delivery.Delivery.TheVariants.{Delivered}
 use Rattle.play_calls.specs.Deliveries.{told_of, is_done}
 use Rattle.play_calls.specs.Logs.{LogView, with_line}
-use Rattle.play_calls.proofs.Fitting.{hears_fits}
-use Rattle.play_threads.specs.Seated.{Seat, AreSeated, IsTold, IsTied, Goes}
+use Rattle.play_threads.specs.Seated.{Seat, AreSeated, IsTied, Goes}
+use Rattle.play_threads.specs.GateWires.{AreAt}
 
 -- ## Answers
 pub if_ok : {A E : Type 0} {P Q : A → Type 0} (r : Result A E) → ((a : A) → P a → Q a) → IfOk r P → IfOk r Q
@@ -92,9 +92,6 @@ pub tied_one : (k : ℕ) (r : Record) (h : HistoryLine) (own own2 : List History
 tied_one k r h own own2 e s is rs a =
     subst (λ l. AreSame l own2) (sym (reached_at k rs r e)) (subst (AreSame (reached k rs ++ r ∷ [])) (sym is) (same_snoc (reached k rs) own r h a s))
 
-pub tied_none : (k : ℕ) (r : Record) (own own2 : List HistoryLine) → reaches k r ≡ false → own2 ≡ own → IsTied k r own own2
-tied_none k r own own2 e is rs a = subst (λ l. AreSame l own2) (sym (reached_off k rs r e)) (subst (AreSame (reached k rs)) (sym is) a)
-
 -- what reaches a node, by its kind
 call_reaches : (i k : ℕ) (r : Request) (t : Told) → (t ≡ told.Dropped → ⊥) → reaches i (Call k r t) ≡ (k == i)
 unfolding reaches
@@ -119,10 +116,6 @@ plain_stands Done f = absurd f
 plain_stands Idle f = absurd f
 plain_stands (NotOpened x) f = absurd f
 
-pub tied_dropped : (k : ℕ) (r : Request) (own : List HistoryLine) → IsTied k (Call k r told.Dropped) own own
-unfolding reaches
-tied_dropped k r own = tied_none k (Call k r told.Dropped) own own refl refl
-
 pub tied_muted : (k c : ℕ) (r : Request) (a : NodeAnswer) (own own2 : List HistoryLine)
     → own2 ≡ own ++ record { caller = c; ask = Act false r; answer = a } ∷ [] → IsTied k (Call k r told.Muted) own own2
 unfolding IsSame
@@ -137,17 +130,6 @@ tied_heard k c r a t own own2 e f is =
     let p = plain_stands a f in
     subst (λ (x : Told). IsTied k (Call k r x) own own2) (sym e)
     (tied_one k (Call k r (told_of Delivered a)) (record { caller = c; ask = Act false r; answer = a }) own own2 (call_reaches k k r (told_of Delivered a) p.1 ∙ same_test k k refl) (refl, p.0) is)
-
-pub told_dropped : IsTold NotDelivered told.Dropped
-unfolding told_of
-told_dropped = record { answer = Done; is = refl }
-
-pub told_muted : IsTold ReplyLost told.Muted
-unfolding told_of
-told_muted = record { answer = Done; is = refl }
-
-pub told_heard : (a : NodeAnswer) (t : Told) → t ≡ told_of Delivered a → IsTold Delivered t
-told_heard a t e = record { answer = a; is = e }
 
 pub tied_late : (k c : ℕ) (r : Request) (a : NodeAnswer) (own own2 : List HistoryLine) → own2 ≡ own ++ record { caller = c; ask = Act true r; answer = a } ∷ [] → IsTied k (Late k r) own own2
 unfolding IsSame reaches
@@ -188,18 +170,6 @@ pub goes_with : (node : ℕ) (old new : LogView) (own own2 : List HistoryLine) (
     → Goes node old own new own2
 goes_with node old new own own2 line e tied off = goes_line node old new own own2 line (ap (λ l. l.nodes) e) (ap (λ l. l.whole) e) (ap (λ l. l.past) e) tied off
 
--- nothing was listed
-pub goes_nothing : (node : ℕ) (old new : LogView) (own own2 : List HistoryLine) → new.nodes ≡ old.nodes → new.whole ≡ old.whole → new.past ≡ old.past → own2 ≡ own → Goes node old own new own2
-goes_nothing node old new own own2 n w p e = record {
-  nodes = n;
-  same = λ x. (sym w ∙ x, λ a. subst (λ l. AreSame (reached node l) own2) (sym p) (subst (AreSame (reached node old.past)) (sym e) a));
-  others = λ x k apart. ap (reached k) p;
-}
-
--- memory was lacking
-pub goes_lost : (node : ℕ) (old new : LogView) (own own2 : List HistoryLine) → new.nodes ≡ old.nodes → new.whole ≡ false → Goes node old own new own2
-goes_lost node old new own own2 n w = record { nodes = n; same = λ x. absurd (cc (sym w ∙ x)); others = λ x. absurd (cc (sym w ∙ x)) }
-
 pub call_apart : (k node : ℕ) (r : Request) (t : Told) → (k ≡ node → ⊥) → reaches k (Call node r t) ≡ false
 call_apart k node r t off = call_elsewhere k node r t (other_test node k (λ e. off (sym e)))
 
@@ -219,39 +189,47 @@ outcome_apart k text = refl
 map_set_table : (seats : List Seat) (i : ℕ) (s d : Seat) → s.table ≡ (get_or seats i d).table → map (λ x. x.table) (set seats i s) ≡ map (λ x. x.table) seats
 map_set_table seats i s d e = map-set_same (λ (x : Seat). x.table) seats i s d e
 
-pub goes_seated : (c : ℕ) (tables : List TableId) (old new : LogView) (seats : List Seat) (node : ℕ) (s t : Seat) → 1 ≤ node → node ≤ old.nodes → AreSeated c tables old seats
-    → s ≡ get_or seats (node - 1) s → t.table ≡ s.table → t.caller ≡ s.caller → Goes node old s.own new t.own → AreSeated c tables new (set seats (node - 1) t)
-goes_seated c tables old new seats node s t low high h is table caller g = record {
-  count = length-set seats (node - 1) t ∙ h.count ∙ sym g.nodes;
+within_set : (seats : List Seat) (k i : ℕ) (t : Seat) → i < length (set seats k t) → i < length seats
+within_set seats k i t l = let n = length-set seats k t in omega (arith, l, n)
+
+at_set : (seats : List Seat) (node i : ℕ) (t d : Seat) → 1 ≤ node → node ≤ length seats → i ≡ node - 1 → get_or (set seats (node - 1) t) i d ≡ t
+at_set seats node i t d low high e = ap (λ k. get_or (set seats (node - 1) t) k d) e ∙ get_or-set_same seats (node - 1) t d (omega (arith, low, high))
+
+-- one of the seats is another of the same gate and caller
+pub set_at : (c : ℕ) (tables : List TableId) (seats : List Seat) (node : ℕ) (s t : Seat) → 1 ≤ node → node ≤ length seats → AreAt c tables seats
+    → s ≡ get_or seats (node - 1) s → t.table ≡ s.table → t.caller ≡ s.caller → AreAt c tables (set seats (node - 1) t)
+set_at c tables seats node s t low high h is table caller = record {
   gates = map_set_table seats (node - 1) t s (table ∙ ap (λ (x : Seat). x.table) is) ∙ h.gates;
   callers = λ i d l. elim (eqb_tells i (node - 1)) [
-    | inl same ↦ ap (λ (x : Seat). x.caller) (at_own i d same.1) ∙ caller ∙ ap (λ (x : Seat). x.caller) is ∙ h.callers (node - 1) s there
-    | inr other ↦ ap (λ (x : Seat). x.caller) (get_or-set_other seats (node - 1) i t d other.1) ∙ h.callers i d (within i l)
-  ];
-  same = λ w i d l. elim (eqb_tells i (node - 1)) [
-    | inl same ↦
-        let e : node ≡ i + 1 = let x = same.1 in omega (arith, low, x) in
-        let was : AreSame (reached ((node - 1) + 1) old.past) (get_or seats (node - 1) s).own = h.same (g.same w).0 (node - 1) s there in
-        let n : (node - 1) + 1 ≡ node = omega (arith, low) in
-        let was2 : AreSame (reached node old.past) s.own = subst (λ (x : Seat). AreSame (reached node old.past) x.own) (sym is)
-        (subst (λ k. AreSame (reached k old.past) (get_or seats (node - 1) s).own) n was) in
-        subst (λ (x : Seat). AreSame (reached (i + 1) new.past) x.own) (sym (at_own i d same.1)) (subst (λ k. AreSame (reached k new.past) t.own) e ((g.same w).1 was2))
-    | inr other ↦
-        let apart : i + 1 ≡ node → ⊥ = λ e. other.1 (omega (arith, e)) in
-        let was : AreSame (reached (i + 1) old.past) (get_or seats i d).own = h.same (g.same w).0 i d (within i l) in
-        subst (λ (x : Seat). AreSame (reached (i + 1) new.past) x.own) (sym (get_or-set_other seats (node - 1) i t d other.1))
-        (subst (λ (rs : List Record). AreSame rs (get_or seats i d).own) (sym (g.others w (i + 1) apart)) was)
+    | inl same ↦ ap (λ (x : Seat). x.caller) (at_set seats node i t d low high same.1) ∙ caller ∙ ap (λ (x : Seat). x.caller) is ∙ h.callers (node - 1) s (omega (arith, low, high))
+    | inr other ↦ ap (λ (x : Seat). x.caller) (get_or-set_other seats (node - 1) i t d other.1) ∙ h.callers i d (within_set seats (node - 1) i t l)
   ];
 }
-  where
-    there : node - 1 < length seats
-    there = let n = h.count in omega (arith, low, high, n)
 
-    within : (i : ℕ) → i < length (set seats (node - 1) t) → i < length seats
-    within i l = let n = length-set seats (node - 1) t in omega (arith, l, n)
-
-    at_own : (i : ℕ) (d : Seat) → i ≡ node - 1 → get_or (set seats (node - 1) t) i d ≡ t
-    at_own i d e = ap (λ k. get_or (set seats (node - 1) t) k d) e ∙ get_or-set_same seats (node - 1) t d there
+pub goes_seated : (c : ℕ) (tables : List TableId) (old new : LogView) (seats : List Seat) (node : ℕ) (s t : Seat) → 1 ≤ node → node ≤ old.nodes → AreSeated c tables old seats
+    → s ≡ get_or seats (node - 1) s → t.table ≡ s.table → t.caller ≡ s.caller → Goes node old s.own new t.own → AreSeated c tables new (set seats (node - 1) t)
+goes_seated c tables old new seats node s t low many h is table caller g =
+    let high : node ≤ length seats = let n = h.count in omega (arith, many, n) in
+    let at : AreAt c tables (set seats (node - 1) t) = set_at c tables seats node s t low high (record { gates = h.gates; callers = h.callers }) is table caller in
+    record {
+      count = length-set seats (node - 1) t ∙ h.count ∙ sym g.nodes;
+      gates = at.gates;
+      callers = at.callers;
+      same = λ w i d l. elim (eqb_tells i (node - 1)) [
+        | inl same ↦
+            let e : node ≡ i + 1 = let x = same.1 in omega (arith, low, x) in
+            let was : AreSame (reached ((node - 1) + 1) old.past) (get_or seats (node - 1) s).own = h.same (g.same w).0 (node - 1) s (omega (arith, low, high)) in
+            let n : (node - 1) + 1 ≡ node = omega (arith, low) in
+            let was2 : AreSame (reached node old.past) s.own = subst (λ (x : Seat). AreSame (reached node old.past) x.own) (sym is)
+            (subst (λ k. AreSame (reached k old.past) (get_or seats (node - 1) s).own) n was) in
+            subst (λ (x : Seat). AreSame (reached (i + 1) new.past) x.own) (sym (at_set seats node i t d low high same.1)) (subst (λ k. AreSame (reached k new.past) t.own) e ((g.same w).1 was2))
+        | inr other ↦
+            let apart : i + 1 ≡ node → ⊥ = λ e. other.1 (omega (arith, e)) in
+            let was : AreSame (reached (i + 1) old.past) (get_or seats i d).own = h.same (g.same w).0 i d (within_set seats (node - 1) i t l) in
+            subst (λ (x : Seat). AreSame (reached (i + 1) new.past) x.own) (sym (get_or-set_other seats (node - 1) i t d other.1))
+            (subst (λ (rs : List Record). AreSame rs (get_or seats i d).own) (sym (g.others w (i + 1) apart)) was)
+      ];
+    }
 
 -- a line or a mark that reaches no node
 pub quiet_seated : (c : ℕ) (tables : List TableId) (old new : LogView) (seats : List Seat) → AreSeated c tables old seats → new.nodes ≡ old.nodes
@@ -265,33 +243,18 @@ quiet_seated c tables old new seats h n q = record {
 
 -- ## The program's seats and gates, each shown as what it is known by
 module _ {G S : Type 0} (table : G → TableId) (seat : S → Seat) where
-  pub own_table : (gates : List G) (seats : List S) (c node : ℕ) (log : LogView) (s : S) (d : G) → 1 ≤ node → node ≤ log.nodes → AreSeated c (map table gates) log (map seat seats)
+  pub own_table : (gates : List G) (seats : List S) (node : ℕ) (s : S) (d : G) → 1 ≤ node → node ≤ length (map seat seats) → map (λ (x : Seat). x.table) (map seat seats) ≡ map table gates
       → s ≡ get_or seats (node - 1) s → (seat s).table ≡ table (get_or gates (node - 1) d)
-  own_table gates seats c node log s d low high h is =
+  own_table gates seats node s d low high same is =
       let i : ℕ = node - 1 in
-      let n : length (map seat seats) ≡ log.nodes = h.count in
       let m : length (map (λ (x : Seat). x.table) (map seat seats)) ≡ length (map seat seats) = length-map (map seat seats) (λ (x : Seat). x.table) in
-      let e : length (map (λ (x : Seat). x.table) (map seat seats)) ≡ length (map table gates) = ap length h.gates in
+      let e : length (map (λ (x : Seat). x.table) (map seat seats)) ≡ length (map table gates) = ap length same in
       ap (λ x. (seat x).table) is
       ∙ ap (λ (x : Seat). x.table) (sym (get_or-map seat seats i s))
       ∙ sym (get_or-map (λ (x : Seat). x.table) (map seat seats) i (seat s))
-      ∙ ap (λ l. get_or l i (seat s).table) h.gates
-      ∙ get_or_default (map table gates) i (seat s).table (table d) (omega (arith, low, high, n, m, e))
+      ∙ ap (λ l. get_or l i (seat s).table) same
+      ∙ get_or_default (map table gates) i (seat s).table (table d) (omega (arith, low, high, m, e))
       ∙ get_or-map table gates i d
-
-  pub seated_on : (gates : List G) (seats : List S) (c node : ℕ) (old new : LogView) (s t : S) → 1 ≤ node → node ≤ old.nodes → AreSeated c (map table gates) old (map seat seats)
-      → s ≡ get_or seats (node - 1) s → (seat t).table ≡ (seat s).table → (seat t).caller ≡ (seat s).caller → Goes node old (seat s).own new (seat t).own
-      → AreSeated c (map table gates) new (map seat (set seats (node - 1) t))
-  seated_on gates seats c node old new s t low high h is same same2 g =
-      subst (AreSeated c (map table gates) new) (sym (map-set seat seats (node - 1) t))
-      (goes_seated c (map table gates) old new (map seat seats) node (seat s) (seat t) low high h (ap seat is ∙ sym (get_or-map seat seats (node - 1) s)) same same2 g)
-
-pub said_seated : {A E : Type 0} (c : ℕ) (tables : List TableId) (old new : LogView) (seats : List Seat) (text : List ℕ) (r : Result A E) → AreSeated c tables old seats
-    → OnOk r (new ≡ with_line old (Outcome text)) → OnErr r (new ≡ record old { whole = false }) → AreSeated c tables new seats
-said_seated c tables old new seats text (Ok a) h e f =
-    quiet_seated c tables old new seats h (ap (λ l. l.nodes) e)
-    (λ w. (sym (ap (λ l. l.whole) e) ∙ w, λ k. ap (λ l. reached k l.past) e ∙ reached_off k old.past (Outcome text) (outcome_apart k text)))
-said_seated c tables old new seats text (Err x) h e f = quiet_seated c tables old new seats h (ap (λ l. l.nodes) f) (λ w. absurd (cc (sym w ∙ ap (λ l. l.whole) f)))
 
 pub call_listed : (c : ℕ) (late : Bool) (q r : Request) (a : NodeAnswer) (own own2 : List HistoryLine) → q ≡ r → own2 ≡ own ++ record { caller = c; ask = Act late q; answer = a } ∷ []
     → own2 ≡ own ++ record { caller = c; ask = Act late r; answer = a } ∷ []
@@ -301,9 +264,3 @@ pub call_fits : (late : Bool) (q r : Request) (a : NodeAnswer) → q ≡ r → F
 call_fits late q r a e f = subst (λ x. AnswerFits (Act late x) a) e f.1
 
 pub ruleset calls = (call_listed, call_fits)
-
-pub ruleset deliveries = (tied_dropped, tied_muted, tied_heard, told_dropped, told_muted, told_heard)
-
-pub ruleset throughs = (goes_nothing, goes_lost, hears_fits)
-
-pub ruleset quiets = (quiet_seated, outcome_apart)

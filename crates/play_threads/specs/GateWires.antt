@@ -7,9 +7,9 @@ use Rattle.journal_history.specs.Cell.{heard_of}
 use Rattle.journal_history.specs.declared.node_ask.NodeAsk.{NodeAsk}
 use Rattle.journal_history.specs.declared.node_ask.NodeAsk.TheVariants.{Act}
 use Rattle.journal_history.specs.declared.node_ask.NodeAnswer.{NodeAnswer}
-use Rattle.journal_history.specs.declared.history_line.HistoryLine.{HistoryLine}
 use Rattle.mesh.specs.Makers.{IsOperation}
 use Rattle.play_calls.specs.Deliveries.{is_done}
+use Rattle.caller.specs.declared.wire.WireModel.{Ghosts}
 use Rattle.play_threads.specs.Entries.{IsReplyOrStop, FitsAsk}
 use Rattle.play_threads.specs.Seated.{Seat}
 
@@ -52,3 +52,14 @@ pub record Operates (node : ℕ) (ask : NodeAsk) (done : Bool) (old new : GatesV
   pub fits : FitsAsk ask answer
   pub done_is : done ≡ is_done answer
   pub adds : Adds node ask answer old new
+
+-- such a wire, whatever its gates are
+abbrev pub gate_wire : Ghosts GatesView
+gate_wire = record {
+  nodes = λ w. length w.seats;
+  carries = Carries;
+  skips = λ node old new. new ≡ old;
+  copies = Copies;
+  operates = Operates;
+  readies = λ old new. new ≡ old;
+}

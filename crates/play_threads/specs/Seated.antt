@@ -2,13 +2,9 @@
 -- of that node.
 use Rattle.std.specs.Prelude.{◌≡◌, ℕ, ◌+◌, ◌<◌, true, List, [], ◌∷◌, ◌++◌, map, length, slice_index_or}
 use Rattle.atomic_table.specs.Seated.{TableId}
-use Rattle.journal_history.specs.declared.node_ask.NodeAnswer.{NodeAnswer}
 use Rattle.journal_history.specs.declared.history_line.HistoryLine.{HistoryLine}
 use Rattle.journal_history.specs.declared.record.Record.{Record}
-use Rattle.journal_history.specs.declared.record.Told.{Told}
 use Rattle.mesh.specs.Matches.{reached, AreSame}
-use Rattle.play_calls.specs.declared.delivery.Delivery.{Delivery}
-use Rattle.play_calls.specs.Deliveries.{told_of}
 use Rattle.play_calls.specs.Logs.{LogView}
 use Rattle.play_threads.specs.Entries.{Entry, own_lines}
 
@@ -21,12 +17,6 @@ pub record Seat : Type 0 where
 abbrev pub seat_of : TableId → ℕ → List Entry → Seat
 seat_of table caller seen = record { table = table; caller = caller; own = own_lines caller seen }
 
--- what contracts see of the seats: their caller, the gates that they are at, and what was listed
-pub record SeatsView : Type 0 where
-  pub caller : ℕ
-  pub tables : List TableId
-  pub log : LogView
-
 -- one seat at each gate, all of this caller; unless memory was lacking each has seen of its caller
 -- just the record's lines of that node
 pub record AreSeated (caller : ℕ) (tables : List TableId) (log : LogView) (seats : List Seat) : Type 0 where
@@ -35,18 +25,7 @@ pub record AreSeated (caller : ℕ) (tables : List TableId) (log : LogView) (sea
   pub callers : (i : ℕ) (d : Seat) → i < length seats → (slice_index_or seats i d).caller ≡ caller
   pub same : log.whole ≡ true → (i : ℕ) (d : Seat) → i < length seats → AreSame (reached (i + 1) log.past) (slice_index_or seats i d).own
 
--- the seats are still this caller's and at these gates, and the record is of as many nodes
-pub record AreLater (old new : SeatsView) : Type 0 where
-  pub caller : new.caller ≡ old.caller
-  pub tables : new.tables ≡ old.tables
-  pub nodes : new.log.nodes ≡ old.log.nodes
-
 -- ## One line more
--- what is told of a call that goes so, whatever the node answered
-pub record IsTold (delivery : Delivery) (told : Told) : Type 0 where
-  pub answer : NodeAnswer
-  pub is : told ≡ told_of delivery answer
-
 -- with this line in the record the caller's own lines of the node go on so
 abbrev pub IsTied : ℕ → Record → List HistoryLine → List HistoryLine → Type 0
 IsTied node line old new = (rs : List Record) → AreSame (reached node rs) old → AreSame (reached node (rs ++ line ∷ [])) new

@@ -11,13 +11,13 @@ ghost use Rattle.play_model.specs.Plays.{LeavesImages, states_after};
 ghost use Rattle.qj_cli.specs.Sound.{AreSound, ComeOf};
 
 use base_disk::MemDisk;
+use caller::{Caller, CopyWire};
 use disk_node::{JournalNode, fresh_nodes};
 use journal_core::{CutNode, OutOfMemory};
 use journal_step::PlainNode;
 use mesh::epoch_order_is_a_run;
 use ns_tree::LastSpace;
 use play_actor::{PlayedOn, ScriptActor, plain_nodes, play_on};
-use play_calls::Seats;
 use play_laws::{
     edits_have_one_result, epoch_order_is_safe, names_are_kept, results_tell_acknowledged,
 };
@@ -36,14 +36,14 @@ use std::thread::Threads;
 struct ScriptActors;
 
 impl Actors for ScriptActors {
-    fn act<S: Seats>(
+    fn act<W: CopyWire>(
         alloc: Global,
         named: bool,
         lines: &[ScriptLine],
         actor: u32,
-        seats: &mut S,
+        caller: &mut Caller<W>,
     ) -> Result<Option<LastSpace>, OutOfMemory> {
-        act_alone::<ScriptActor, S>(alloc, named, lines, actor, seats)
+        act_alone::<ScriptActor, W>(alloc, named, lines, actor, caller)
     }
 }
 

@@ -1,3 +1,4 @@
+use Rattle.caller.specs.LaterLaws.{later_same}
 use Rattle.pipe_lead.proofs.TakeLaws.{other_taken}
 use Rattle.pipe_lead.proofs.inputs.take_input.Goals as goal
 
@@ -6,6 +7,12 @@ take_script-requires-clause-script g c = c.in-Script.ensures.script.script
 
 pub returns-in-Ok-false-clause-taken : goal.returns-in-Ok-false-clause-taken
 returns-in-Ok-false-clause-taken g c =
-    other_taken _ c.nodes_of-nodes.result c.args.line.now c.deref.result.now c.in-Script.script c.read_script.result c.in-Ok-false.field-0 _ _
-    (cc (c.deref.ensures.value, c.in_ok-print_script.ensures)) c.nodes_of-nodes.ensures.nodes c.read_script.ensures.only c.in-Script.is c.in-Ok-false.field-0-test
+    other_taken _ c.nodes.result c.args.line.now c.deref.result.now c.in-Script.script c.read_script.result c.in-Ok-false.field-0 _ _
+    (cc (c.deref.ensures.value, c.in_ok-print_script.ensures)) c.nodes.ensures c.read_script.ensures.only c.in-Script.is c.in-Ok-false.field-0-test
     c.in-Ok-false.ensures.took
+
+pub returns-then-is_silent-clause-later : goal.returns-then-is_silent-clause-later
+returns-then-is_silent-clause-later g c = later_same g.W.WireModel g.met.W.Wire.readies_none c.args.caller.now
+
+pub returns-in-BadScript-clause-later : goal.returns-in-BadScript-clause-later
+returns-in-BadScript-clause-later g c = later_same g.W.WireModel g.met.W.Wire.readies_none c.args.caller.now

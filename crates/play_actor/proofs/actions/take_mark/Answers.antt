@@ -4,5 +4,5 @@ use Rattle.play_actor.proofs.actions.take_mark.Goals as goal
 
 pub returns-clause-takes : goal.returns-clause-takes
 returns-clause-takes g c =
-    let old = g.S.Seats.log c.args.seats.now in
-    on_ok_weaker c.mark.result (λ e w o idle free. takes_mark old.nodes w o old (g.S.Seats.log c.mark.new.self) c.args.node c.args.call c.args.mute idle free e) c.mark.ensures.marked
+    let old = c.args.caller.now.log in
+    on_ok_weaker c.lose_next.result (λ e w o idle free. takes_mark old.nodes w o old c.lose_next.new.self.log c.args.node c.args.call c.args.mute idle free e) c.lose_next.ensures.marked

@@ -1,5 +1,6 @@
 use Rattle.std.proofs.Common.{Some, refl, sym, subst}
 use Rattle.std.proofs.lemmas.Result.{IfOk-weaker}
+use Rattle.caller.specs.LaterLaws.{later_same}
 use Rattle.play_names.specs.Holding.{Holding, Broken, with_work}
 use Rattle.play_standby.specs.Standbys.{held}
 use Rattle.play_model.specs.Lines.{line_of}
@@ -13,7 +14,7 @@ use Rattle.play_actor.proofs.named_lines.take_named.Goals as goal
 
 pub take_resting-requires-clause-idle : goal.take_resting-requires-clause-idle
 take_resting-requires-clause-idle g c =
-    let log = g.S.Seats.log c.args.seats.now in
+    let log = c.args.caller.now.log in
     subst (λ (k : KeptActor). IsIdleActor log.nodes k)
     (sym (role_kept c.args.node c.into_role-role.result.1 c.into_role-role.result.0 _ log c.into_role-role.ensures.writer c.into_role-role.ensures.holding c.in-Standby.is)) c.requires.idle
 
@@ -22,8 +23,8 @@ take_resting-requires-clause-rests g c = subst (λ (r : Role). StandsIn r) c.in-
 
 pub returns-in-Standby-clause-takes : goal.returns-in-Standby-clause-takes
 returns-in-Standby-clause-takes g c =
-    let log = g.S.Seats.log c.args.seats.now in
-    let new = g.S.Seats.log c.take_resting.new.seats in
+    let log = c.args.caller.now.log in
+    let new = c.take_resting.new.caller.log in
     IfOk-weaker c.take_resting.result _ _
     (λ node takes. subst (λ (k : KeptActor). TakesIf log.nodes (action_of (line_of c.args.line.now)) k (kept_node node new))
     (role_kept c.args.node c.into_role-role.result.1 c.into_role-role.result.0 _ log c.into_role-role.ensures.writer c.into_role-role.ensures.holding c.in-Standby.is) takes)
@@ -31,7 +32,7 @@ returns-in-Standby-clause-takes g c =
 
 pub take_active-requires-clause-idle : goal.take_active-requires-clause-idle
 take_active-requires-clause-idle g c =
-    let log = g.S.Seats.log c.args.seats.now in
+    let log = c.args.caller.now.log in
     subst (λ (k : KeptActor). IsIdleActor log.nodes k)
     (sym (role_kept c.args.node c.into_role-role.result.1 c.into_role-role.result.0 _ log c.into_role-role.ensures.writer c.into_role-role.ensures.holding c.in-Active.is)) c.requires.idle
 
@@ -40,8 +41,8 @@ take_active-requires-clause-serving g c = subst (λ (r : Role). StandsIn r) c.in
 
 pub returns-in-Active-clause-takes : goal.returns-in-Active-clause-takes
 returns-in-Active-clause-takes g c =
-    let log = g.S.Seats.log c.args.seats.now in
-    let new = g.S.Seats.log c.take_active.new.seats in
+    let log = c.args.caller.now.log in
+    let new = c.take_active.new.caller.log in
     IfOk-weaker c.take_active.result _ _
     (λ node takes. subst (λ (k : KeptActor). TakesIf log.nodes (action_of (line_of c.args.line.now)) k (kept_node node new))
     (role_kept c.args.node c.into_role-role.result.1 c.into_role-role.result.0 _ log c.into_role-role.ensures.writer c.into_role-role.ensures.holding c.in-Active.is) takes)
@@ -49,7 +50,7 @@ returns-in-Active-clause-takes g c =
 
 pub returns-in-Broken-clause-takes : goal.returns-in-Broken-clause-takes
 returns-in-Broken-clause-takes g c =
-    let log = g.S.Seats.log c.args.seats.now in
+    let log = c.args.caller.now.log in
     let rest = c.in-Broken.resting in
     let h : Holding = with_work Broken (held c.into_role-role.result.1 rest.standby) in
     let k : KeptActor = kept_of rest.writer (Some h) log in
@@ -60,4 +61,4 @@ returns-in-Broken-clause-takes g c =
     (subst (λ (x : NameView). TakesIf log.nodes o k (kept_node x log)) (sym c.broken.ensures) takes)
 
 pub returns-in-Broken-clause-later : goal.returns-in-Broken-clause-later
-returns-in-Broken-clause-later g c = g.met.S.Seats.later_same c.args.seats.now
+returns-in-Broken-clause-later g c = later_same g.W.WireModel g.met.W.Wire.readies_none c.args.caller.now

@@ -7,8 +7,8 @@ use Rattle.play_actor.proofs.named_lines.take_resting.Goals as goal
 
 pub returns-in_ok-take_inactive-in_default-clause-takes : goal.returns-in_ok-take_inactive-in_default-clause-takes
 returns-in_ok-take_inactive-in_default-clause-takes g c =
-    let log = g.S.Seats.log c.args.seats.now in
+    let log = c.args.caller.now.log in
     let w = c.args.resting.writer in
     let s = c.args.resting.standby in
-    subst (λ (x : NameView). TakesIf log.nodes (action_of (line_of c.args.line.now)) (kept_resting w c.args.images s log) (kept_node x (g.S.Seats.log c.take_inactive.new.seats)))
+    subst (λ (x : NameView). TakesIf log.nodes (action_of (line_of c.args.line.now)) (kept_resting w c.args.images s log) (kept_node x c.take_inactive.new.caller.log))
     (sym c.resting.ensures) (c.in_ok-take_inactive-in_default.ensures.takes w (held c.args.images s) c.requires.idle refl c.requires.rests)

@@ -1,5 +1,7 @@
-use Rattle.std.proofs.Common.{◌≡◌, List, sym, ◌∙◌, subst}
+use Rattle.std.proofs.Common.{◌≡◌, List, sym, ◌∙◌, subst, refl}
 use Rattle.std.proofs.lemmas.Result.{on_ok_weaker}
+use Rattle.caller.specs.LaterLaws.{later_on}
+use Rattle.play_calls.specs.Logs.{calls_in}
 use Rattle.ns_edits.specs.Replay.{Image}
 use Rattle.play_calls.specs.Made.{MakesCalls}
 use Rattle.play_standby.specs.Standbys.{held}
@@ -10,33 +12,33 @@ use Rattle.play_actor.proofs.RoundLaws.{trim_takes, trim_noimage}
 use Rattle.play_actor.proofs.rounds.take_trim.Goals as goal
 
 pub purge-purging-requires-clause-nodes : goal.purge-purging-requires-clause-nodes
-purge-purging-requires-clause-nodes g c = g.met.S.Seats.nodes_are c.args.seats.now ∙ sym c.requires.idle.ready.sized.left
+purge-purging-requires-clause-nodes g c = sym c.requires.idle.ready.sized.left
 
 pub returns-in_default-clause-takes : goal.returns-in_default-clause-takes
 returns-in_default-clause-takes g c =
-    let log = g.S.Seats.log c.args.seats.now in
+    let log = c.args.caller.now.log in
     let a = c.args.active in
-    trim_noimage log.nodes c.args.extra c.args.images a log (g.S.Seats.log c.say_all.new.seats) c.serving.result c.in_ok-one_word.field-0.items c.requires.idle c.requires.serving
+    trim_noimage log.nodes c.args.extra c.args.images a log c.say_all.new.caller.log c.serving.result c.in_ok-one_word.field-0.items c.requires.idle c.requires.serving
     (sym c.in_default.is ∙ c.in_ok-min.ensures.least)
     (subst (λ (l : List Image). c.serving.result ≡ record { writer = a.writer; holding = held l (standing a) }) c.min_to_keep.ensures.same c.serving.ensures)
     c.in_ok-one_word.ensures c.in_ok-say_all.ensures.leads
 
 pub returns-clause-takes : goal.returns-clause-takes
 returns-clause-takes g c =
-    let old = c.args.seats.now in
+    let old = c.args.caller.now in
     let mid = c.purge-purging.new.peers in
     let b = c.purge-purging.new.self in
-    let made : MakesCalls (g.S.Seats.log old) (g.S.Seats.log mid) = g.met.S.Seats.called_lists old mid (c.purge-purging.ensures.called c.in_ok-texts.ensures.memory) in
+    let made : MakesCalls old.log mid.log = (c.purge-purging.ensures.called c.in_ok-texts.ensures.memory).1 in
     if_ok_all c.end_round.result
     (λ node writer holding said.
-    trim_takes (g.S.Seats.log old).nodes c.args.extra c.in-Some.min c.args.images c.args.active b (g.S.Seats.log old) (g.S.Seats.log mid) (g.S.Seats.log c.end_round.new.seats)
-    (g.S.Peers.calls old) (g.S.Peers.calls mid) c.purge-purging.result node c.in_ok-texts.texts.items c.requires.idle c.requires.serving (sym c.in-Some.is ∙ c.in_ok-min.ensures.least)
-    (g.met.S.Seats.calls_are old) (g.met.S.Seats.calls_are mid) c.purge-purging.ensures.purging c.in_ok-texts.ensures.memory made writer
+    trim_takes old.log.nodes c.args.extra c.in-Some.min c.args.images c.args.active b old.log mid.log c.end_round.new.caller.log
+    (calls_in old.log.past) (calls_in mid.log.past) c.purge-purging.result node c.in_ok-texts.texts.items c.requires.idle c.requires.serving (sym c.in-Some.is ∙ c.in_ok-min.ensures.least)
+    refl refl c.purge-purging.ensures.purging c.in_ok-texts.ensures.memory made writer
     (subst (λ (l : List Image). node.holding ≡ held_after (is_open b) l b) c.min_to_keep.ensures.same holding) c.in_ok-texts.ensures.texts said)
     c.end_round.ensures.writer c.end_round.ensures.holding c.end_round.ensures.said
 
 pub returns-clause-later : goal.returns-clause-later
 returns-clause-later g c =
     on_ok_weaker c.end_round.result
-    (λ h. g.met.S.Seats.later_on _ _ _ (g.met.S.Seats.called_later c.args.seats.now c.purge-purging.new.peers (c.purge-purging.ensures.called c.in_ok-texts.ensures.memory)) h)
+    (λ h. later_on g.W.WireModel g.met.W.Wire.readies_on _ _ _ (c.purge-purging.ensures.called c.in_ok-texts.ensures.memory).0 h)
     c.end_round.ensures.later

@@ -10,8 +10,8 @@ use Rattle.play_actor.proofs.standby_actions.take_reload.Goals as goal
 
 pub returns-clause-takes : goal.returns-clause-takes
 returns-clause-takes g c =
-    let log = g.S.Seats.log c.args.seats.now in
-    let new = g.S.Seats.log c.say_all.new.seats in
+    let log = c.args.caller.now.log in
+    let new = c.say_all.new.caller.log in
     let w = c.args.resting.writer in
     let s = c.args.resting.standby in
     let s' = c.load.new.standby in

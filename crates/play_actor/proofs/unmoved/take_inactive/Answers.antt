@@ -7,8 +7,8 @@ use Rattle.play_actor.proofs.unmoved.take_inactive.Goals as goal
 
 pub returns-in_ok-inactive_texts-in-Roll-clause-takes : goal.returns-in_ok-inactive_texts-in-Roll-clause-takes
 returns-in_ok-inactive_texts-in-Roll-clause-takes g c =
-    let old = g.S.Seats.log c.args.seats.now in
-    let new = g.S.Seats.log c.say_all.new.seats in
+    let old = c.args.caller.now.log in
+    let new = c.say_all.new.caller.log in
     on_ok_weaker c.say_all.result
     (λ said w h idle free shut.
     takes_line old.nodes c.args.line.now _ (kept_of w (Some h) old) (kept_of w (Some h) new) c.in-Roll.is
@@ -17,8 +17,8 @@ returns-in_ok-inactive_texts-in-Roll-clause-takes g c =
 
 pub returns-in_ok-inactive_texts-in-Close-clause-takes : goal.returns-in_ok-inactive_texts-in-Close-clause-takes
 returns-in_ok-inactive_texts-in-Close-clause-takes g c =
-    let old = g.S.Seats.log c.args.seats.now in
-    let new = g.S.Seats.log c.say_all-in-Close.new.seats in
+    let old = c.args.caller.now.log in
+    let new = c.say_all-in-Close.new.caller.log in
     on_ok_weaker c.say_all-in-Close.result
     (λ said w h idle free shut.
     takes_line old.nodes c.args.line.now _ (kept_of w (Some h) old) (kept_of w (Some h) new) c.in-Close.is
@@ -27,8 +27,8 @@ returns-in_ok-inactive_texts-in-Close-clause-takes g c =
 
 pub returns-in_ok-repeat_text-in-Edits-clause-takes : goal.returns-in_ok-repeat_text-in-Edits-clause-takes
 returns-in_ok-repeat_text-in-Edits-clause-takes g c =
-    let old = g.S.Seats.log c.args.seats.now in
-    let new = g.S.Seats.log c.say_all-in-Edits.new.seats in
+    let old = c.args.caller.now.log in
+    let new = c.say_all-in-Edits.new.caller.log in
     on_ok_weaker c.say_all-in-Edits.result
     (λ said w h idle free shut.
     takes_line old.nodes c.args.line.now _ (kept_of w (Some h) old) (kept_of w (Some h) new) c.in-Edits.is
@@ -38,8 +38,8 @@ returns-in_ok-repeat_text-in-Edits-clause-takes g c =
 
 pub returns-in_ok-one_word-in-Trim-clause-takes : goal.returns-in_ok-one_word-in-Trim-clause-takes
 returns-in_ok-one_word-in-Trim-clause-takes g c =
-    let old = g.S.Seats.log c.args.seats.now in
-    let new = g.S.Seats.log c.say_all-in-Trim.new.seats in
+    let old = c.args.caller.now.log in
+    let new = c.say_all-in-Trim.new.caller.log in
     on_ok_weaker c.say_all-in-Trim.result
     (λ said w h idle free shut.
     takes_line old.nodes c.args.line.now _ (kept_of w (Some h) old) (kept_of w (Some h) new) c.in-Trim.is

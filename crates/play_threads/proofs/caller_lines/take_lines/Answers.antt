@@ -1,4 +1,4 @@
-use Rattle.std.proofs.Common.{◌≡◌, ◌==◌, length, map, sym, ap, subst, refl, ◌∙◌}
+use Rattle.std.proofs.Common.{◌==◌, length, map, sym, ap, subst, ◌∙◌}
 use Rattle.play_calls.specs.Logs.{LogView}
 use Rattle.play_threads.specs.Seated.{seat_of, AreSeated}
 use Rattle.play_model.specs.Lines.{line_of}
@@ -20,7 +20,7 @@ returns g c =
     let same = c.into_parts-wire.ensures.log in
     let parts = c.into_parts-past.ensures in
     let start = start_seated c.args.caller tables before n c.new-wire.result s c.new-wire.ensures c.in_ok-by.ensures c.requires.seated in
-    let end = gates_go _ (λ v. refl) (λ k r h o m x. x) (λ k o m x. x) (λ k r o m x. x) (λ k a d o m x. x) (λ o m x. x) c.args.caller tables s t start.1.0 start.0 c.in_ok-last.ensures.later in
+    let end = gates_go c.args.caller tables s t start.1.0 start.0 c.in_ok-last.ensures.later in
     leaves c.args.named n c.args.operator c.args.caller lines tables after c.into_parts-past.result.0 c.into_parts-past.result.1 c.in_ok-last.last log
     (ap (λ (l : LogView). l.whole) same ∙ (sym c.is_whole.ensures.whole ∙ c.if-not-is_whole.false))
     (ap (λ (l : LogView). l.nodes) same ∙ (c.in_ok-last.ensures.later.nodes ∙ start.1.1))

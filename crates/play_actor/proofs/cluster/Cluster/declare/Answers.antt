@@ -2,7 +2,7 @@ use Rattle.std.proofs.Common.{rules, arith, ◌≡◌, ◌≤◌, ◌∙◌, sym
 use Rattle.std.proofs.lemmas.Grind.{common_steps}
 use Rattle.play_calls.specs.Logs.{LogView}
 use Rattle.play_actor.specs.Kept.{Kept}
-use Rattle.play_actor.proofs.SeatsGo.{seated_more}
+use Rattle.play_actor.proofs.ActsTaken.{seated_more}
 use Rattle.play_actor.proofs.cluster.Cluster.declare.Goals as goal
 
 pub invariant_of-self : goal.invariant_of-self

@@ -1,4 +1,4 @@
-use Rattle.std.proofs.Common.{rules, ◌≡◌, ◌∙◌, refl, sym, ap, subst, Some, true, [], map, length}
+use Rattle.std.proofs.Common.{rules, ◌≡◌, ◌∙◌, sym, ap, subst, Some, true, [], map, length}
 use Rattle.mesh.specs.Marks.{IsMarked, AreCopied}
 use Rattle.mesh.specs.Matches.{AreWithin}
 use Rattle.play_model.specs.Lines.{actions_of, line_of}
@@ -11,26 +11,22 @@ use Rattle.play_pipes.proofs.pipe_work.ActorWorkWork.run.Goals as goal
 pub returns-clause-starts : goal.returns-clause-starts
 returns-clause-starts g c =
     let s = c.of-by.result in
-    let t = c.act-done.new.seats in
+    let t = c.act-done.new.caller in
     let desk = ap (λ x. x.wire.desk) c.of-by.ensures ∙ (c.new-4.ensures.desk ∙ c.replace-own.ensures.value) in
     let count : s.log.nodes ≡ length s.wire.desk.starts =
     ap (λ x. x.log.nodes) c.of-by.ensures ∙ (ap (λ (l : LogView). l.nodes) c.in_ok-log.ensures ∙ (sym c.requires.nodes ∙ (sym c.nodes.ensures.lists ∙ (c.nodes.ensures.starts ∙ sym (ap (λ d. length d.starts) desk))))) in
-    let went = desks_go _ (λ v. v.ahead) (λ v. v.desk.lists) (λ u v. v.desk.starts ≡ u.desk.starts) (λ v. refl) (λ u v x a b. b ∙ a) (λ u v e. ap length e)
-    (λ n r h o m x. x) (λ n o m x. x) (λ n r o m x. x) (λ n a d o m x. x) (λ o m x. x) s t
-    (ap (λ x. x.log.whole) c.of-by.ensures ∙ ap (λ (l : LogView). l.whole) c.in_ok-log.ensures) count c.in_ok-last.ensures.later in
+    let went = desks_go (λ v. v.desk.starts) (λ v. v.desk.lists) (λ v. v.ahead) s t count c.in_ok-last.ensures.later in
     ap (λ v. v.desk.starts) c.into_parts-wire.ensures.wire ∙ (went.0 ∙ ap (λ d. d.starts) desk)
 
 pub returns-clause-ran : goal.returns-clause-ran
 returns-clause-ran g c =
     let me = c.args.self.now in
     let s = c.of-by.result in
-    let t = c.act-done.new.seats in
+    let t = c.act-done.new.caller in
     let desk = ap (λ x. x.wire.desk) c.of-by.ensures ∙ (c.new-4.ensures.desk ∙ c.replace-own.ensures.value) in
     let count : s.log.nodes ≡ length s.wire.desk.starts =
     ap (λ x. x.log.nodes) c.of-by.ensures ∙ (ap (λ (l : LogView). l.nodes) c.in_ok-log.ensures ∙ (sym c.requires.nodes ∙ (sym c.nodes.ensures.lists ∙ (c.nodes.ensures.starts ∙ sym (ap (λ d. length d.starts) desk))))) in
-    let went = desks_go _ (λ v. v.ahead) (λ v. v.desk.lists) (λ u v. v.desk.starts ≡ u.desk.starts) (λ v. refl) (λ u v x a b. b ∙ a) (λ u v e. ap length e)
-    (λ n r h o m x. x) (λ n o m x. x) (λ n r o m x. x) (λ n a d o m x. x) (λ o m x. x) s t
-    (ap (λ x. x.log.whole) c.of-by.ensures ∙ ap (λ (l : LogView). l.whole) c.in_ok-log.ensures) count c.in_ok-last.ensures.later in
+    let went = desks_go (λ v. v.desk.starts) (λ v. v.desk.lists) (λ v. v.ahead) s t count c.in_ok-last.ensures.later in
     let same = c.into_parts-wire.ensures.log in
     let parts = c.into_parts-past in
     let is_empty : c.is_empty.result ≡ true = search rules in
@@ -39,7 +35,7 @@ returns-clause-ran g c =
     subst (HasWorked me.named me.nodes actions (Some (parts.result.0, parts.result.1, c.in_ok-last.last))) (sym (ap (λ v. v.desk.lists) c.into_parts-wire.ensures.wire))
     (worked me.named me.nodes actions (Some (parts.result.0, parts.result.1, c.in_ok-last.last)) s.log t.log s.wire.ahead t.wire.ahead s.wire.desk.lists
     c.args.desk.now.lists t.wire.desk.lists c.in_ok-last.last (ap (λ x. x.log) c.of-by.ensures ∙ c.in_ok-log.ensures) (ap (λ x. x.wire.ahead) c.of-by.ensures ∙ c.new-4.ensures.ahead)
-    (ap (λ d. d.lists) desk) c.requires.nodes c.requires.empty went.1 (sym c.is_whole-is_whole.ensures.whole ∙ is_whole)
+    (ap (λ d. d.lists) desk) c.requires.nodes c.requires.empty c.in_ok-last.ensures.later.nodes went.1 (sym c.is_whole-is_whole.ensures.whole ∙ is_whole)
     (sym (ap (λ v. v.ahead) c.into_parts-wire.ensures.wire) ∙ c.is_empty.ensures is_empty) c.in_ok-last.ensures.follows
     (λ i. Some ((parts.ensures.records ∙ ap (λ (l : LogView). l.past) same) i, (parts.ensures.plan ∙ ap (λ (l : LogView). l.marks) same) i, c.in_ok-last.last))
     (subst (λ (l : LogView). l.whole ≡ true → IsMarked l.marks [] l.past) same parts.ensures.marked)

@@ -1,39 +1,32 @@
--- The seats of a play while an actor acts: each call of theirs, and a whole action.
-use Rattle.std.proofs.Common.{◌≡◌, ◌≢◌, ◌==◌, ◌⊎◌, ℕ, zero, suc, ◌-◌, ◌<◌, ◌≤◌, List, [], ◌∷◌, ◌++◌, length, Bool, false, true, refl, sym, ap, ◌∙◌}
-use Rattle.std.proofs.Common.{subst, arith, inl, inr, append_assoc, append-nil, set, get_or}
-use Rattle.std.proofs.lemmas.List.{length-map, length-set, map-set, get_or-map, get_or-set_same, get_or-set_other, append_cancel_left, get_or_default}
+-- A whole action of an actor in a play, and the actors with their lists after it.
+use Rattle.std.proofs.Common.{◌≡◌, ◌≢◌, ◌==◌, ◌⊎◌, ℕ, zero, suc, ◌-◌, ◌<◌, List, [], ◌∷◌, ◌++◌, length, Bool, false, true, sym, ap, ◌∙◌}
+use Rattle.std.proofs.Common.{subst, arith, inl, inr, set, get_or}
+use Rattle.std.proofs.lemmas.List.{length-map, length-set, map-set, get_or-map, get_or-set_same, get_or-set_other, append_cancel_left}
 use Rattle.std.proofs.lemmas.List.Elements.{All-append}
 use Rattle.std.proofs.lemmas.Bool.Decides.{eqb_tells}
-use Rattle.journal_core.specs.declared.request.Request.{Request}
-use Rattle.journal_core.specs.declared.heard.Heard.{Heard}
-use Rattle.journal_history.specs.declared.mark.Mark.{Mark}
-use Rattle.journal_history.specs.declared.node_ask.NodeAsk.TheVariants.{Act}
 use Rattle.journal_history.specs.declared.record.Record.{Record}
-use Rattle.journal_history.specs.declared.record.Record.TheVariants.{Call, Late, Outcome}
-use Rattle.journal_history.specs.declared.record.Told.{Told}
-use Rattle.journal_history.specs.NodeCells.{CellView, new_cell}
-use Rattle.mesh.specs.Makers.{heard_of}
-use Rattle.mesh.specs.Marks.{next_number, IsAsMarked, IsMarked}
-use Rattle.play_calls.specs.declared.delivery.Delivery.{Delivery}
-use Rattle.play_calls.specs.Deliveries.{delivery}
-use Rattle.play_calls.specs.Logs.{LogView, with_line, copy_call, IsCalled}
-use Rattle.play_calls.proofs.MarkLaws.{delivery_marked, marked_after}
+use Rattle.journal_history.specs.NodeCells.{CellView}
+use Rattle.mesh.specs.Marks.{IsMarked}
+use Rattle.play_calls.specs.Logs.{LogView}
+use Rattle.play_calls.proofs.MarkLaws.{marked_after}
 use Rattle.play_script.specs.declared.script_line.ScriptLine.{ScriptLine}
 use Rattle.play_actor.specs.declared.player.Player.{Player}
 use Rattle.play_model.specs.Lines.{Line, Action, Acts}
-use Rattle.play_model.specs.Actor.{Actor, IsLed, hand_action, goes_on, actor_after}
+use Rattle.play_model.specs.Actor.{Actor, IsLed, hand_action, actor_after}
 use Rattle.play_model.specs.Actions.{ActorView, IsIdleActor, TakesAction, TakesIf, action_of, MayCome, has_names, kept_by}
 use Rattle.play_model.specs.KeptActor.{KeptActor, new_actor, resting}
-use Rattle.play_actor.specs.Kept.{Kept, actor_of, list_ask, answer_to, reached_by, told_by}
-use Rattle.play_actor.specs.PlaySeats.{SeatsView, cell_at, AreLater}
+use Rattle.play_actor.specs.Kept.{Kept, actor_of}
+use Rattle.caller.specs.Callers.{CallerView, AreLater}
+use Rattle.play_actor.specs.NodesWire.{NodesView, nodes_wire}
+use Rattle.play_actor.proofs.NodesGo.{nodes_for}
 use Rattle.play_actor.specs.Ready.{IsIdleIn, IsIdle, TakesLine}
-use Rattle.play_actor.specs.SeatLaws.{later_one}
 use Rattle.play_actor.specs.Shown.{keeps, kept, AreSeated}
 use Rattle.play_actor.proofs.LineTaken.{takes_action}
 use Rattle.play_model.proofs.Sound.{handed_past, led_past}
 
-abbrev pub view : ℕ → List CellView → LogView → SeatsView
-view caller cells log = record { caller = caller; cells = cells; log = log }
+-- a caller of this number over these nodes, who listed and marked this
+abbrev pub view : ℕ → List CellView → LogView → CallerView NodesView
+view caller cells log = record { wire = nodes_for caller cells; log = log }
 
 -- ## An action
 module _ {A : Type 0} (seen : A → ActorView) where
@@ -81,10 +74,10 @@ module _ {A : Type 0} (seen : A → ActorView) where
       (subst (λ b. MayCome b (length cells) line) (sym (player_idle named cells players o os k c p e is l idle).holds_if) (subst (λ (x : Kept). MayCome x.named (length x.nodes) line) (sym e) may))
 
   pub act_takes : (named : Bool) (cells : List CellView) (players : List (Player A)) (o : ℕ) (os : List Record) (k : Kept) (c : ℕ) (p q : Player A)
-      (log last : LogView) (caller : ℕ) (more : List CellView) (d : Action) (line : Line) (new : SeatsView)
+      (log last : LogView) (caller : ℕ) (more : List CellView) (d : Action) (line : Line) (new : CallerView NodesView)
       → kept seen named cells players o os ≡ k → AreSeated (length cells) players → p ≡ get_or players c p → c < length k.actors → log ≡ p.log → IsIdle k → line ≡ Acts c d
       → view caller more last ≡ new → TakesIf log.nodes (action_of line) (kept_by (seen p.actor) log) (kept_by (seen q.actor) new.log)
-      → has_names (seen q.actor) ≡ has_names (seen p.actor) → AreLater (view c cells log) new
+      → has_names (seen q.actor) ≡ has_names (seen p.actor) → AreLater nodes_wire (view c cells log) new
       → IsMarked last.marks [] last.past → q.name ≡ p.name → q.log ≡ last → TakesLine (Acts c d) (length k.actors) k (kept seen named more (set players c q) o os)
   act_takes named cells players o os k c p q log last caller more d line new e seated is l own idle says back takes as_before later marked name after =
       let there : c < length players = players_there named cells players o os k c e l in
@@ -96,11 +89,11 @@ module _ {A : Type 0} (seen : A → ActorView) where
       let t : TakesAction p.log.nodes d (kept_by (seen p.actor) p.log) (keeps seen q) =
       subst (λ (x : LogView). TakesAction p.log.nodes d (kept_by (seen p.actor) p.log)
       (record { name = q.name; writer = (seen q.actor).writer; holds = (seen q.actor).holds; past = x.past; marks = x.marks })) (sym after)
-      (renamed (subst (λ (x : SeatsView). TakesAction p.log.nodes d (kept_by (seen p.actor) p.log) (kept_by (seen q.actor) x.log)) (sym back)
+      (renamed (subst (λ (x : CallerView NodesView). TakesAction p.log.nodes d (kept_by (seen p.actor) p.log) (kept_by (seen q.actor) x.log)) (sym back)
       (subst (λ (x : LogView). TakesAction x.nodes d (kept_by (seen p.actor) x) (kept_by (seen q.actor) new.log)) own
       (subst (λ (x : Line). TakesIf log.nodes (action_of x) (kept_by (seen p.actor) log) (kept_by (seen q.actor) new.log)) says takes)))) in
-      let g : AreLater (view c cells p.log) (view caller more last) =
-      subst (λ (x : SeatsView). AreLater (view c cells p.log) x) (sym back) (subst (λ (x : LogView). AreLater (view c cells x) new) own later) in
+      let g : AreLater nodes_wire (view c cells p.log) (view caller more last) =
+      subst (λ (x : CallerView NodesView). AreLater nodes_wire (view c cells p.log) x) (sym back) (subst (λ (x : LogView). AreLater nodes_wire (view c cells x) new) own later) in
       let x : Actor = hand_action d (resting (keeps seen p)) in
       let whole : x.past ++ t.leads.lines ≡ p.log.past ++ g.lines = sym (led_past x t.leads.lines) ∙ ap (λ (y : Actor). y.past) t.leads.after ∙ ap (λ (y : LogView). y.past) after ∙ g.past in
       let same : t.leads.lines ≡ g.lines = append_cancel_left p.log.past t.leads.lines g.lines (ap (λ ps. ps ++ t.leads.lines) (sym (handed_past d (resting (keeps seen p)))) ∙ whole) in
@@ -109,7 +102,7 @@ module _ {A : Type 0} (seen : A → ActorView) where
       subst (λ (y : LogView). IsMarked y.marks p.log.past g.lines) (sym after) (marked_after last.marks [] p.log.past g.lines split) in
       let b : KeptActor = actor_of j c in
       let taken : TakesLine (Acts c d) (length j.actors) j (record { named = named; nodes = more; actors = set j.actors c (keeps seen q); operator = o; operated = os }) =
-      takes_action j c d g.lines (keeps seen q) more m still
+      takes_action j c d g.lines (keeps seen q) (nodes_for caller more) m still
       (subst (λ (y : KeptActor). IsLed (hand_action d (resting y)) g.lines) (sym a) (subst (λ rs. IsLed x rs) same t.leads.led))
       (subst (λ (y : KeptActor). actor_after (hand_action d (resting y)) g.lines ≡ resting (keeps seen q)) (sym a) (subst (λ rs. actor_after x rs ≡ resting (keeps seen q)) same t.leads.after))
       (record { idle = subst (λ y. IsIdleActor y (keeps seen q)) n t.idle; holds_if = as_before ∙ (player_idle named cells players o os k c p e is l idle).holds_if })
@@ -126,10 +119,10 @@ module _ {A : Type 0} (seen : A → ActorView) where
       }
 
   pub still_seated : (cells : List CellView) (players : List (Player A)) (c : ℕ) (q : Player A) (log last : LogView) (caller : ℕ)
-      (more : List CellView) (new : SeatsView) → view caller more last ≡ new → AreLater (view c cells log) new
+      (more : List CellView) (new : CallerView NodesView) → view caller more last ≡ new → AreLater nodes_wire (view c cells log) new
       → length more ≡ last.nodes → AreSeated (length cells) players → log.nodes ≡ length cells → q.log ≡ last → AreSeated (length more) (set players c q)
   still_seated cells players c q log last caller more new back later own seated first after k d l =
-      let n : last.nodes ≡ length cells = ap (λ (x : SeatsView). x.log.nodes) back ∙ later.nodes ∙ first in
+      let n : last.nodes ≡ length cells = ap (λ (x : CallerView NodesView). x.log.nodes) back ∙ later.nodes ∙ first in
       let count : length (set players c q) ≡ length players = length-set players c q in
       by (eqb_tells k c) n count
     where

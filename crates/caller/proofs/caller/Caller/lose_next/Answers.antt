@@ -1,6 +1,6 @@
 use Rattle.journal_history.specs.declared.mark.MarkKind.TheVariants as kind
 use Rattle.caller.proofs.CallLaws.{marked_later}
-use Rattle.caller.proofs.caller.CallerSeats.mark.Goals as goal
+use Rattle.caller.proofs.caller.Caller.lose_next.Goals as goal
 
 pub returns-then-mute-clause-later : goal.returns-then-mute-clause-later
 returns-then-mute-clause-later g c =

@@ -2,7 +2,7 @@ use Rattle.std.proofs.Common.{◌≤◌, sym, subst}
 use Rattle.caller.specs.Callers.{CallerView}
 use Rattle.caller.specs.LaterLaws.{later_same}
 use Rattle.caller.proofs.CallLaws.{copied_over}
-use Rattle.caller.proofs.caller.CallerSeats.late.Goals as goal
+use Rattle.caller.proofs.caller.Caller.copy.Goals as goal
 
 pub returns-in_default-clause-later : goal.returns-in_default-clause-later
 returns-in_default-clause-later g c = later_same g.W.WireModel g.met.W.Wire.readies_none c.args.self.now
