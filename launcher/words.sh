@@ -73,12 +73,12 @@ place_in_gen() {
   fi
 }
 
-# The place of the first wrong word of `serve CLIENTS` or `lead NODES`, where the number is at most $1.
+# The place of the first wrong word of `serve CLIENTS [FOLDER]` or `lead NODES [FOLDER]`, where the number is at most $1.
 place_in_counted() {
   if ! is_number "${3-}" 1 "$1"; then
     echo 1
-  elif [ $# -gt 3 ]; then
-    echo 2
+  elif [ $# -gt 4 ]; then
+    echo 3
   fi
 }
 
@@ -117,6 +117,7 @@ legal_words() {
     3oiv,ls) echo "PATH comes last, and begins with \`/\`" ;;
     4oev,back) echo "EPOCH is from 1 to $GREATEST, without a leading zero" ;;
     1serve,*) echo "CLIENTS is from 1 to 64" ;;
+    3serve,* | 3lead,*) echo "the name of a folder comes last" ;;
     1--version,*) echo 'after `--version` comes nothing, or `--check`' ;;
     1--use,*) echo "the name of a package's file comes last" ;;
     2--package,*) echo 'after `--package` comes nothing, or the name of one folder' ;;

@@ -435,6 +435,8 @@ def lead_line(r, time):
         ])
     if way < .035:
         return 'log ' + 'x' * r.choice([16376, 16377, 16378, 16379, 16380])
+    if way < .1:
+        return r.choice(['state'] * 9 + ['state a'])
     line = making.script_line(r, 'names', 1, ['a'], time)
     while line.split(' ')[0] in ('drop', 'mute', 'late', 'kill', 'restart', 'stop', 'cut'):
         line = making.script_line(r, 'names', 1, ['a'], time)

@@ -83,8 +83,8 @@ fn shape(words: &[&str]) -> Result<(), usize> {
     let second: &[&str] = match words.first().copied() {
         Some("play" | "run" | "piped" | "mirror" | "boot" | "node" | "fsck" | "judge") => return exact(words, 1),
         Some("gen") => return shape_with_numbers(words, 1, &OF_GEN),
-        Some("serve") => return shape_with_numbers(words, 1, &[1..=64]),
-        Some("lead") => return shape_with_numbers(words, 1, &[1..=15]),
+        Some("serve") => return shape_with_folder(words, 1..=64),
+        Some("lead") => return shape_with_folder(words, 1..=15),
         Some("oev") if words.get(1) == Some(&"back") => return shape_with_numbers(words, 3, &OF_BACK),
         Some("oev") => &["list", "stats", "json"],
         Some("oiv") if words.get(1) == Some(&"ls") => return shape_with_path(words),
@@ -116,6 +116,14 @@ fn shape_with_numbers(words: &[&str], first: usize, ranges: &[RangeInclusive<u64
     exact(words, first + ranges.len())
 }
 
+/// A number, and then nothing, or a folder.
+fn shape_with_folder(words: &[&str], count: RangeInclusive<u64>) -> Result<(), usize> {
+    match words.len() {
+        0..=2 => shape_with_numbers(words, 1, &[count]),
+        _ => shape_with_numbers(&words[..2], 1, &[count]).and_then(|()| exact(words, 3)),
+    }
+}
+
 /// A name, and then a path.
 fn shape_with_path(words: &[&str]) -> Result<(), usize> {
     match words.get(3) {
@@ -142,8 +150,10 @@ fn run(words: &[&str]) -> Ending {
         ["boot"] => with_script(boot),
         ["judge"] => judge(),
         ["node"] => serve::serve(),
-        ["serve", clients] => pipes::serve(number(clients)),
-        ["lead", nodes] => pipes::lead(number(nodes) as usize),
+        ["serve", clients] => pipes::serve(number(clients), "clients"),
+        ["serve", clients, folder] => pipes::serve(number(clients), folder),
+        ["lead", nodes] => pipes::lead(number(nodes) as usize, "nodes"),
+        ["lead", nodes, folder] => pipes::lead(number(nodes) as usize, folder),
         ["fsck"] => match fsck::check() {
             Ok((text, 0)) => Ending::Ok(text),
             Ok((text, _)) => Ending::Unsound(text),

@@ -63,15 +63,15 @@ fn pipe(folder: &str, number: usize, name: &str) -> io::Result<String> {
 // ## A node
 
 /// Serves the node of the current folder to its clients, a thread each. At the end of the input it ends at once.
-pub fn serve(clients: u64) -> Ending {
+pub fn serve(clients: u64, folder: &str) -> Ending {
     let node = match open_folder().and_then(serve::open_node) {
         Ok(node) => Arc::new(Mutex::new(node)),
         Err(ending) => return ending,
     };
     let (end, ends) = mpsc::channel();
     for client in 1..=clients as usize {
-        let (node, end) = (Arc::clone(&node), end.clone());
-        thread::spawn(move || serve_client(&node, client, &end));
+        let (node, folder, end) = (Arc::clone(&node), folder.to_owned(), end.clone());
+        thread::spawn(move || serve_client(&node, client, &folder, &end));
     }
     thread::spawn(move || {
         let mut room = [0; 64];
@@ -82,9 +82,9 @@ pub fn serve(clients: u64) -> Ending {
 }
 
 /// All sessions of a client.
-fn serve_client(node: &Mutex<Node<Folder>>, client: usize, end: &Sender<Ending>) {
+fn serve_client(node: &Mutex<Node<Folder>>, client: usize, folder: &str, end: &Sender<Ending>) {
     loop {
-        let Ok((source, sink)) = open_to_answer(client) else {
+        let Ok((source, sink)) = open_to_answer(folder, client) else {
             thread::sleep(PAUSE);
             continue;
         };
@@ -96,8 +96,8 @@ fn serve_client(node: &Mutex<Node<Folder>>, client: usize, end: &Sender<Ending>)
     }
 }
 
-fn open_to_answer(client: usize) -> io::Result<(File, File)> {
-    let (requests, replies) = (pipe("clients", client, "requests")?, pipe("clients", client, "replies")?);
+fn open_to_answer(folder: &str, client: usize) -> io::Result<(File, File)> {
+    let (requests, replies) = (pipe(folder, client, "requests")?, pipe(folder, client, "replies")?);
     Ok((File::open(requests)?, OpenOptions::new().write(true).open(replies)?))
 }
 
@@ -131,6 +131,7 @@ fn serve_session(node: &Mutex<Node<Folder>>, source: File, mut sink: File) -> io
 
 /// The pipe to a node: in use from its opening on, until a fault.
 pub struct FarNode {
+    folder: String,
     number: usize,
     life: u64,
     calls: u64,
@@ -141,8 +142,8 @@ pub struct FarNode {
 }
 
 impl FarNode {
-    fn new(number: usize, life: u64) -> FarNode {
-        FarNode { number, life, calls: 0, ends: None, is_asked: false, line: Vec::new() }
+    fn new(folder: &str, number: usize, life: u64) -> FarNode {
+        FarNode { folder: folder.to_owned(), number, life, calls: 0, ends: None, is_asked: false, line: Vec::new() }
     }
 
     /// Writes a request, where the pipe is in use; one to join with opens it first.
@@ -162,7 +163,8 @@ impl FarNode {
     }
 
     fn open(&self) -> io::Result<(BufReader<File>, File)> {
-        let (requests, replies) = (pipe("nodes", self.number, "requests")?, pipe("nodes", self.number, "replies")?);
+        let pipe = |name| pipe(&self.folder, self.number, name);
+        let (requests, replies) = (pipe("requests")?, pipe("replies")?);
         let sink = OpenOptions::new().write(true).open(requests)?;
         Ok((BufReader::with_capacity(64 * 1024, File::open(replies)?), sink))
     }
@@ -196,7 +198,7 @@ impl FarNode {
 }
 
 /// Is a name node over so many nodes: takes the lines of the standard input one by one.
-pub fn lead(nodes: usize) -> Ending {
+pub fn lead(nodes: usize, folder: &str) -> Ending {
     let _folder = match open_folder() {
         Ok(folder) => folder,
         Err(ending) => return ending,
@@ -209,7 +211,7 @@ pub fn lead(nodes: usize) -> Ending {
         Ok(images) => Standby::with_images(images),
         Err(ending) => return ending,
     };
-    let mut play = Play::over((1..=nodes).map(|number| FarNode::new(number, life)).collect(), standby);
+    let mut play = Play::over((1..=nodes).map(|number| FarNode::new(folder, number, life)).collect(), standby);
     let (mut lines, mut line, mut used) = (BufReader::new(ends::input()), Vec::new(), 0);
     loop {
         match read_line(&mut lines, &mut line) {
@@ -223,7 +225,7 @@ pub fn lead(nodes: usize) -> Ending {
             line if line.starts_with(b"log ") => used + line.len() * 10 + 32,
             _ => used,
         };
-        let mut told = play.answer(&line, nodes);
+        let mut told = if line == b"state" { play.state() } else { play.answer(&line, nodes) };
         // (an image is in the folder before its result is written)
         if told.starts_with(b"= checkpoint") {
             let image = play.first_standby().map(Standby::snapshot);

@@ -415,6 +415,18 @@ impl Play {
         self.actors.first().and_then(|actor| actor.standby.as_ref())
     }
 
+    /// What `lead` answers to who asks what it is. FORMATS.md, "The program".
+    pub fn state(&self) -> Vec<u8> {
+        let mut line = Vec::new();
+        if let Some(Actor { writer, standby: Some(standby), .. }) = self.actors.first() {
+            let (word, number) = if writer.is_active() { (b"= active".as_slice(), writer.epoch()) } else { (b"= standby".as_slice(), standby.position) };
+            line.extend_from_slice(word);
+            push_next_number(&mut line, number);
+            line.push(b'\n');
+        }
+        line
+    }
+
     /// The position of the actor of this name; 0 where there is none.
     pub fn position(&self, name: &[u8]) -> u64 {
         let actor = self.actors.iter().find(|actor| actor.caller.name == name);

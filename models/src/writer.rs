@@ -88,6 +88,11 @@ impl Writer {
         self.open.is_some()
     }
 
+    /// The epoch that it took last.
+    pub fn epoch(&self) -> u64 {
+        self.epoch
+    }
+
     /// The txid that the next edit gets.
     pub fn next(&self) -> Option<u64> {
         self.open.map(|open| open.next)

@@ -3,3 +3,4 @@ pub mod WordLaws
 pub mod StartLaws
 pub mod ServeLaws
 pub mod LeadLaws
+pub mod StateLaws

@@ -3,6 +3,8 @@ use Rattle.std.specs.Prelude.{ℕ, ◌≡◌, ◌≤◌, ◌||◌, Bool, false, 
 use Rattle.std.specs.Str.{bytes_eq}
 use Rattle.base_words.specs.WordNumbers.{is_number}
 use Rattle.journal_core.specs.Nodes.{most_nodes, PermittedNodes}
+use Rattle.cli_cluster.specs.declared.cluster_command.PipeFolder.{PipeFolder}
+use Rattle.cli_cluster.specs.declared.cluster_command.PipeFolder.TheVariants as pipe_folder
 use Rattle.cli_cluster.specs.declared.cluster_command.ClusterCommand.{ClusterCommand}
 use Rattle.cli_cluster.specs.declared.cluster_command.ClusterCommand.TheVariants as cluster
 
@@ -11,13 +13,18 @@ abbrev pub most_clients : ℕ
 most_clients = 64
 
 -- ## Words that ask
+-- behind the number of clients or nodes
+abbrev pub folder_words : PipeFolder → List (List ℕ)
+folder_words pipe_folder.Usual = []
+folder_words (pipe_folder.Named name) = name.now ∷ []
+
 abbrev pub cluster_words : ClusterCommand → List (List ℕ)
-cluster_words (cluster.Serve clients) = codes "serve" ∷ decimal clients ∷ []
-cluster_words (cluster.Lead nodes) = codes "lead" ∷ decimal nodes ∷ []
+cluster_words (cluster.Serve clients folder) = codes "serve" ∷ decimal clients ∷ folder_words folder
+cluster_words (cluster.Lead nodes folder) = codes "lead" ∷ decimal nodes ∷ folder_words folder
 
 abbrev pub IsInCluster : ClusterCommand → Type 0
-IsInCluster (cluster.Serve clients) = (1 ≤ clients) × (clients ≤ most_clients)
-IsInCluster (cluster.Lead nodes) = PermittedNodes nodes
+IsInCluster (cluster.Serve clients folder) = (1 ≤ clients) × (clients ≤ most_clients)
+IsInCluster (cluster.Lead nodes folder) = PermittedNodes nodes
 
 pub record AsksCluster (words : List (List ℕ)) (command : ClusterCommand) : Type 0 where
   pub are : words ≡ cluster_words command
@@ -29,14 +36,16 @@ asks_cluster [] = false
 asks_cluster (word ∷ words) = bytes_eq word (codes "serve") || bytes_eq word (codes "lead")
 
 -- ## Wrong words
--- after it stands one number of this range
-abbrev pub after_one_number : List (List ℕ) → Option ℕ
-after_one_number [] = None
-after_one_number (word ∷ words) = Some 2
+-- behind the number may stand the name of a folder
+abbrev pub behind_number : List (List ℕ) → Option ℕ
+behind_number [] = None
+behind_number (name ∷ []) = None
+behind_number (name ∷ word ∷ words) = Some 3
 
+-- after it stands a number of this range
 unfoldable pub after_counted : ℕ → List (List ℕ) → Option ℕ
 after_counted most [] = Some 1
-after_counted most (word ∷ words) = if is_number 1 most word then after_one_number words else Some 1
+after_counted most (word ∷ words) = if is_number 1 most word then behind_number words else Some 1
 
 -- the place, from 0, of the first word that is missing or wrong after it
 unfoldable pub cluster_usage_of : List (List ℕ) → Option ℕ

@@ -9,6 +9,7 @@ ghost use Rattle.cli_cluster.specs.Images.{SavesStandby, SavesIn, TakesInFolder,
 use base_disk::{Disk, DiskFail};
 use caller::{Caller, CopyWire};
 use journal_core::OutOfMemory;
+use pipe_lead::{LeadState, StatedActor};
 use play_actor::ScriptActor;
 use play_model::{Actor, ActorLeft};
 use play_script::ScriptLine;
@@ -155,5 +156,20 @@ impl<D: Disk + Drop> Actor for FolderActor<D> {
             failed: _,
         } = self;
         actor.into_left(alloc)
+    }
+}
+
+impl<D: Disk + Drop> StatedActor for FolderActor<D> {
+    #[tactic(auto, using(crate::proofs::StateLaws::states))]
+    fn state(&self) -> LeadState {
+        if let Some(epoch) = self.actor.epoch() {
+            return LeadState::Active { epoch };
+        }
+        match self.actor.standby() {
+            Some(standby) => LeadState::Standby {
+                txid: standby.position(),
+            },
+            None => LeadState::Broken,
+        }
     }
 }

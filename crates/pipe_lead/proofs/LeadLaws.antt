@@ -30,8 +30,10 @@ use Rattle.pipe_lead.specs.declared.answer.Answer.{Answer}
 use Rattle.pipe_lead.specs.declared.answer.Answer.TheVariants as answer
 use Rattle.pipe_lead.specs.declared.lead_end.LeadEnd.{LeadEnd}
 use Rattle.pipe_lead.specs.declared.lead_end.LeadEnd.TheVariants as lead_end
-use Rattle.pipe_lead.specs.Inputs.{Step, Took, Passed, Refused, IsStepOf, TakesStep, IsAnsweredBy, IsTaken}
-use Rattle.pipe_lead.specs.Leads.{refusal_text, answer_text, AreTold, none, took, passed, refused, taken_in, AreStepsOf, IsWithRolls, no_line, its_line, one_roll, IsWritten}
+use Rattle.pipe_lead.specs.Inputs.{Step, Took, Passed, Refused, Stated, IsStepOf, TakesStep, IsAnsweredBy, IsTaken, view_of}
+use Rattle.pipe_lead.specs.declared.lead_state.LeadState.{LeadState}
+use Rattle.pipe_lead.specs.States.{IsInState, state_text}
+use Rattle.pipe_lead.specs.Leads.{refusal_text, answer_text, AreTold, none, took, passed, refused, stated, taken_in, AreStepsOf, IsWithRolls, no_line, its_line, one_roll, IsWritten}
 use Rattle.pipe_lead.specs.Leads.{IsAnsweredAs, IsAnswered, IsAnsweredInTime, tells_all, IsLong, EndsAt, HasLed, Leads, IfLasts, end_of}
 use Rattle.pipe_lead.specs.Begun.{IsBegun, HasDoneFrom, FollowsFrom}
 use Rattle.pipe_lead.proofs.DoneLaws.{done_first, done_line, done_follows, fresh_follows, begun_made}
@@ -50,14 +52,17 @@ abbrev added : Step → List ScriptLine
 added (Took line) = line ∷ []
 added Passed = []
 added (Refused rule) = []
+added (Stated of) = []
 
 taken_snoc : (steps : List Step) (step : Step) → taken_in (steps ++ step ∷ []) ≡ taken_in steps ++ added step
 taken_snoc [] (Took line) = refl
 taken_snoc [] Passed = refl
 taken_snoc [] (Refused rule) = refl
+taken_snoc [] (Stated of) = refl
 taken_snoc (Took l ∷ steps) step = ap (λ ls. l ∷ ls) (taken_snoc steps step)
 taken_snoc (Passed ∷ steps) step = taken_snoc steps step
 taken_snoc (Refused rule ∷ steps) step = taken_snoc steps step
+taken_snoc (Stated of ∷ steps) step = taken_snoc steps step
 
 done_step : (n : ℕ) (o : ActorView) (steps : List Step) (text : List ℕ) (step : Step) (old new : KeptActor) → HasDoneFrom o n (actions_of 0 (map line_of (taken_in steps))) old → IsStepOf n text step
     → TakesStep n step old new → HasDoneFrom o n (actions_of 0 (map line_of (taken_in (steps ++ step ∷ [])))) new
@@ -70,6 +75,9 @@ done_step n o steps text Passed old new h is t =
 done_step n o steps text (Refused rule) old new h is t =
     subst (λ (xs : List ScriptLine). HasDoneFrom o n (actions_of 0 (map line_of xs)) new) (sym (taken_snoc steps (Refused rule) ∙ append-nil (taken_in steps)))
     (subst (λ (k : KeptActor). HasDoneFrom o n (actions_of 0 (map line_of (taken_in steps))) k) (sym t) h)
+done_step n o steps text (Stated of) old new h is t =
+    subst (λ (xs : List ScriptLine). HasDoneFrom o n (actions_of 0 (map line_of xs)) new) (sym (taken_snoc steps (Stated of) ∙ append-nil (taken_in steps)))
+    (subst (λ (k : KeptActor). HasDoneFrom o n (actions_of 0 (map line_of (taken_in steps))) k) (sym t.0) h)
 
 -- what is told of it
 told_step : (n : ℕ) (o : ActorView) (steps : List Step) (text : List ℕ) (step : Step) (of : Answer) (old new : KeptActor) (more : List Record) → AreTold n o steps old text → IsAnsweredBy of step
@@ -77,16 +85,25 @@ told_step : (n : ℕ) (o : ActorView) (steps : List Step) (text : List ℕ) (ste
 told_step n o steps text (Took l) answer.Results old new more h a t e = took steps old new more text l h t e
 told_step n o steps text (Took l) answer.Nothing old new more h a t e = absurd a
 told_step n o steps text (Took l) (answer.Broken rule) old new more h a t e = absurd a
+told_step n o steps text (Took l) (answer.State of) old new more h a t e = absurd a
 told_step n o steps text Passed answer.Nothing old new more h a t e =
     subst (λ (k : KeptActor). AreTold n o (steps ++ Passed ∷ []) k (text ++ [])) (sym t)
     (subst (λ (x : List ℕ). AreTold n o (steps ++ Passed ∷ []) old x) (sym (append-nil text)) (passed steps old text h))
 told_step n o steps text Passed answer.Results old new more h a t e = absurd a
 told_step n o steps text Passed (answer.Broken rule) old new more h a t e = absurd a
+told_step n o steps text Passed (answer.State of) old new more h a t e = absurd a
 told_step n o steps text (Refused by) (answer.Broken rule) old new more h a t e =
     subst (λ (k : KeptActor). AreTold n o (steps ++ Refused by ∷ []) k (text ++ refusal_text rule)) (sym t)
     (subst (λ (x : ℕ). AreTold n o (steps ++ Refused by ∷ []) old (text ++ refusal_text x)) a (refused steps old text by h))
 told_step n o steps text (Refused by) answer.Results old new more h a t e = absurd a
 told_step n o steps text (Refused by) answer.Nothing old new more h a t e = absurd a
+told_step n o steps text (Refused by) (answer.State of) old new more h a t e = absurd a
+told_step n o steps text (Stated of) (answer.State state) old new more h a t e =
+    subst (λ (k : KeptActor). AreTold n o (steps ++ Stated of ∷ []) k (text ++ state_text state)) (sym t.0)
+    (subst (λ (x : LeadState). AreTold n o (steps ++ Stated of ∷ []) old (text ++ state_text x)) a (stated steps old text of h t.1))
+told_step n o steps text (Stated of) answer.Results old new more h a t e = absurd a
+told_step n o steps text (Stated of) answer.Nothing old new more h a t e = absurd a
+told_step n o steps text (Stated of) (answer.Broken rule) old new more h a t e = absurd a
 
 -- ## What is written
 front_after : (a b c : Option (List ℕ)) (xs ys : List ℕ) → Appends a b xs → TakesFront b c ys → TakesFront a c (xs ++ ys)
@@ -341,6 +358,7 @@ step_idle : (n : ℕ) (step : Step) (old new : KeptActor) → IsIdleActor n old 
 step_idle n (Took line) old new h t = if_idle n (action_of (line_of line)) old new h t
 step_idle n Passed old new h t = subst (λ (k : KeptActor). IsIdleActor n k) (sym t) h
 step_idle n (Refused rule) old new h t = subst (λ (k : KeptActor). IsIdleActor n k) (sym t) h
+step_idle n (Stated of) old new h t = subst (λ (k : KeptActor). IsIdleActor n k) (sym t.0) h
 
 pub answered_idle : (line : List ℕ) (v w : ActorView) (s t : PipeCaller) (a b : Option (List ℕ)) → IsIdleActor s.log.nodes (kept_by v s.log) → IsAnsweredAs true line v s w t a b
     → IsIdleActor t.log.nodes (kept_by w t.log)
@@ -474,6 +492,7 @@ are_actions n (l ∷ lines) [] playable h = absurd h
 are_actions n (l ∷ lines) (Took line ∷ steps) playable h = actions_more (line_of line) (map line_of (taken_in steps)) (own_action n l line playable h.0) (are_actions n lines steps playable h.1)
 are_actions n (l ∷ lines) (Passed ∷ steps) playable h = are_actions n lines steps playable h.1
 are_actions n (l ∷ lines) (Refused rule ∷ steps) playable h = are_actions n lines steps playable h.1
+are_actions n (l ∷ lines) (Stated of ∷ steps) playable h = are_actions n lines steps playable h.1
 
 led_made : (end : LeadEnd) (n : ℕ) (o v : ActorView) (l : LogView) (given left a b : Option (List ℕ)) → ScriptsArePlayable → IsBegun n o → Leads n o v l given left a b end → IsOfChores n l.past
 led_made end n o v l given left a b playable begun h =

@@ -1,6 +1,6 @@
 -- The actor's own line of a script may be taken, and its action is one that may be asked.
 use Rattle.std.proofs.Common.{ℕ, zero, suc, ◌≡◌, ◌+◌, ◌<◌, List, [], ◌∷◌, map, length, get_or, Option, Some, None, Bool, true, false, refl, sym, ap, ◌∙◌, subst, arith, inl, inr, ◌≢◌}
-use Rattle.std.specs.Prelude.{slice_get}
+use Rattle.std.specs.Prelude.{codes, slice_get}
 use Rattle.std.specs.List.{All}
 use Rattle.play_script.specs.declared.answer.ReadScript.{ReadScript}
 use Rattle.play_script.specs.declared.answer.ReadScript.TheVariants as read
@@ -17,7 +17,9 @@ use Rattle.play_model.specs.KeptActor.{KeptActor}
 use Rattle.play_threads.specs.Threads.{is_by}
 use Rattle.play_threads.proofs.LineLaws.{may_come}
 use Rattle.pipe_lead.specs.declared.answer.Answer.TheVariants as answer
-use Rattle.pipe_lead.specs.Inputs.{may_be_taken, IsOwnLine, HasNoOwn, TookOwn, Says, Took, Passed, Refused, IsTaken, script_of}
+use Rattle.pipe_lead.specs.Inputs.{may_be_taken, IsOwnLine, HasNoOwn, TookOwn, Says, Took, Passed, Refused, Stated, IsTaken, script_of, view_of}
+use Rattle.pipe_lead.specs.declared.lead_state.LeadState.{LeadState}
+use Rattle.pipe_lead.specs.States.{IsInState}
 
 -- ## An element
 found : {A : Type 0} (xs : List A) (k : ℕ) (x : A) → slice_get xs k ≡ Some x → (k < length xs) × (get_or xs k x ≡ x)
@@ -84,6 +86,9 @@ pub ruleset others = (without_names, of_other_count, without_line, with_other)
 pub passes_taken : (n : ℕ) (text : List ℕ) (k : KeptActor) → is_silent text ≡ true → IsTaken n text answer.Nothing k k
 passes_taken n text k e = record { step = Passed; is = e; answered = tt; takes = refl }
 
+pub state_taken : (n : ℕ) (text : List ℕ) (of : LeadState) (k : KeptActor) → text ≡ codes "state" → IsInState of (view_of k) → IsTaken n text (answer.State of) k k
+state_taken n text of k e h = record { step = Stated of; is = e; answered = refl; takes = (refl, h) }
+
 pub own_taken : (n m : ℕ) (text written : List ℕ) (s : ScriptView) (b : Bool) (old new : KeptActor) → written ≡ script_of m text → m ≡ n → IsScriptText written s → b ≡ true → TookOwn b n s old new
     → IsTaken n text answer.Results old new
 own_taken n m text written s b old new is count reads holds took =
@@ -117,7 +122,7 @@ pub bad_taken : (n m : ℕ) (text written : List ℕ) (line rule : ℕ) (k : Kep
 bad_taken n m text written line rule k is count fault =
     record { step = Refused rule; is = inl (line, ap fault_of (sym (is ∙ ap (λ (j : ℕ). script_of j text) count)) ∙ fault); answered = refl; takes = refl }
 
-pub ruleset taken = (passes_taken, own_taken, other_taken, bad_taken)
+pub ruleset taken = (passes_taken, state_taken, own_taken, other_taken, bad_taken)
 
 -- ## Its action
 abbrev pub IsOwnAction : Bool → Option (ℕ × Action) → Type 0

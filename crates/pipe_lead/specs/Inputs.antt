@@ -7,8 +7,10 @@ use Rattle.play_script.specs.Scripts.{ScriptView}
 use Rattle.play_script.specs.Grammar.{IsScriptText, is_silent}
 use Rattle.play_script.specs.Rules.{fault_of}
 use Rattle.play_model.specs.Lines.{line_of}
-use Rattle.play_model.specs.Actions.{action_of, TakesIf}
+use Rattle.play_model.specs.Actions.{ActorView, action_of, TakesIf}
 use Rattle.play_model.specs.KeptActor.{KeptActor}
+use Rattle.pipe_lead.specs.declared.lead_state.LeadState.{LeadState}
+use Rattle.pipe_lead.specs.States.{IsInState}
 use Rattle.pipe_lead.specs.declared.answer.Answer.{Answer}
 use Rattle.pipe_lead.specs.declared.answer.Answer.TheVariants as answer
 
@@ -54,12 +56,13 @@ pub record Says (nodes : ℕ) (text : List ℕ) (line : ScriptLine) : Type 0 whe
   pub reads : IsScriptText (script_of nodes text) script
   pub is_own : IsOwnLine nodes script line
 
--- what came of a line: it was taken; it is empty or a comment; or it is none that may be taken, by
--- this rule
+-- what came of a line: it was taken; it is empty or a comment; it is none that may be taken, by
+-- this rule; or it asks what the name node is, and that was told
 pub data Step : Type 0 where
   Took : (line : ScriptLine) → Step
   Passed : Step
   Refused : (rule : ℕ) → Step
+  Stated : (of : LeadState) → Step
 
 -- the first rule of scripts that it breaks, or that it is no line here: its first word begins none
 abbrev pub IsRefusedBy : ℕ → List ℕ → ℕ → Type 0
@@ -69,18 +72,25 @@ abbrev pub IsStepOf : ℕ → List ℕ → Step → Type 0
 IsStepOf nodes text (Took line) = Says nodes text line
 IsStepOf nodes text Passed = is_silent text ≡ true
 IsStepOf nodes text (Refused rule) = IsRefusedBy nodes text rule
+IsStepOf nodes text (Stated of) = text ≡ codes "state"
+
+-- what contracts see of it
+abbrev pub view_of : KeptActor → ActorView
+view_of k = record { writer = k.writer; holds = k.holds }
 
 -- what it did to the actor
 abbrev pub TakesStep : ℕ → Step → KeptActor → KeptActor → Type 0
 TakesStep nodes (Took line) old new = TakesIf nodes (action_of (line_of line)) old new
 TakesStep nodes Passed old new = new ≡ old
 TakesStep nodes (Refused rule) old new = new ≡ old
+TakesStep nodes (Stated of) old new = (new ≡ old) × IsInState of (view_of old)
 
 -- how it is answered
 abbrev pub IsAnsweredBy : Answer → Step → Type 0
 IsAnsweredBy answer.Results (Took line) = Unit {0}
 IsAnsweredBy answer.Nothing Passed = Unit {0}
 IsAnsweredBy (answer.Broken rule) (Refused by) = by ≡ rule
+IsAnsweredBy (answer.State state) (Stated of) = of ≡ state
 IsAnsweredBy _ _ = ⊥
 
 -- one line: what came of it, and what it did to the actor

@@ -23,7 +23,9 @@ use Rattle.pipe_lead.specs.declared.answer.Answer.TheVariants as answer
 use Rattle.pipe_lead.specs.declared.lead_end.LeadEnd.{LeadEnd}
 use Rattle.pipe_lead.specs.declared.lead_end.LeadEnd.TheVariants as lead_end
 use Rattle.pipe_lead.specs.Begun.{HasDoneFrom, FollowsFrom}
-use Rattle.pipe_lead.specs.Inputs.{Step, Took, Passed, Refused, IsStepOf, TakesStep, IsTaken}
+use Rattle.pipe_lead.specs.Inputs.{Step, Took, Passed, Refused, Stated, IsStepOf, TakesStep, IsTaken, view_of}
+use Rattle.pipe_lead.specs.declared.lead_state.LeadState.{LeadState}
+use Rattle.pipe_lead.specs.States.{IsInState, state_text}
 
 -- ## What is written
 -- a result's line
@@ -44,9 +46,10 @@ abbrev pub answer_text : Answer → List Record → List ℕ
 answer_text answer.Results more = results_text more
 answer_text answer.Nothing more = []
 answer_text (answer.Broken rule) more = refusal_text rule
+answer_text (answer.State of) more = state_text of
 
 -- Line by line, from an actor of so many nodes as it began: what a line did to it, and the results
--- that were listed of one that was taken, or the rule that one broke.
+-- that were listed of one that was taken, the rule that one broke, or what the actor was.
 pub data AreTold (nodes : ℕ) (begun : ActorView) : List Step → KeptActor → List ℕ → Type 0 where
   none : AreTold nodes begun [] (kept_by begun (new_log nodes true)) []
   took : (steps : List Step) (old new : KeptActor) (more : List Record) (text : List ℕ) (line : ScriptLine) → AreTold nodes begun steps old text → TakesStep nodes (Took line) old new
@@ -54,6 +57,8 @@ pub data AreTold (nodes : ℕ) (begun : ActorView) : List Step → KeptActor →
   passed : (steps : List Step) (by : KeptActor) (text : List ℕ) → AreTold nodes begun steps by text → AreTold nodes begun (steps ++ Passed ∷ []) by text
   refused : (steps : List Step) (by : KeptActor) (text : List ℕ) (rule : ℕ) → AreTold nodes begun steps by text
       → AreTold nodes begun (steps ++ Refused rule ∷ []) by (text ++ refusal_text rule)
+  stated : (steps : List Step) (by : KeptActor) (text : List ℕ) (of : LeadState) → AreTold nodes begun steps by text → IsInState of (view_of by)
+      → AreTold nodes begun (steps ++ Stated of ∷ []) by (text ++ state_text of)
 
 -- ## What was done
 -- the lines that were taken
@@ -62,6 +67,7 @@ taken_in [] = []
 taken_in (Took line ∷ steps) = line ∷ taken_in steps
 taken_in (Passed ∷ steps) = taken_in steps
 taken_in (Refused rule ∷ steps) = taken_in steps
+taken_in (Stated of ∷ steps) = taken_in steps
 
 -- what came of each line
 abbrev pub AreStepsOf : ℕ → List (List ℕ) → List Step → Type 0

@@ -1,3 +1,4 @@
 pub mod Begun
 pub mod Inputs
 pub mod Leads
+pub mod States

@@ -1,4 +1,5 @@
 //! How a line of the input is answered.
+use crate::lead_state::LeadState;
 
 /// How a line of the input is answered.
 #[derive(Clone, Copy)]
@@ -9,4 +10,6 @@ pub enum Answer {
     Nothing,
     /// By the rule that it breaks.
     Broken { rule: u32 },
+    /// By what the name node is.
+    State { state: LeadState },
 }

@@ -6,6 +6,7 @@ ghost use Rattle.play_model.specs.Actions.{kept_by, has_names, IsIdleActor};
 ghost use Rattle.pipe_lead.specs.Inputs.{may_be_taken, HasNoOwn, IsOwnLine, TookOwn, IsTaken};
 
 use crate::answer::Answer;
+use crate::lead_state::StatedActor;
 use crate::line_text::print_script;
 use caller::{Caller, CopyWire};
 use journal_core::{OutOfMemory, Peers};
@@ -85,7 +86,7 @@ fn take_script<A: Actor, W: CopyWire>(
 
 /// Takes a line of the input. `text` is room for a script's text. An `Err` is lack of memory.
 #[tactic(auto, using(crate::proofs::TakeLaws::taken))]
-pub(crate) fn take_input<A: Actor, W: CopyWire>(
+pub(crate) fn take_input<A: StatedActor, W: CopyWire>(
     alloc: Global,
     by: &mut A,
     caller: &mut Caller<W>,
@@ -100,6 +101,9 @@ pub(crate) fn take_input<A: Actor, W: CopyWire>(
 {
     if is_silent(line) {
         return Ok(Answer::Nothing);
+    }
+    if line == b"state".as_slice() {
+        return Ok(Answer::State { state: by.state() });
     }
     print_script(caller.nodes(), line, text)?;
     match read_script(alloc, text) {

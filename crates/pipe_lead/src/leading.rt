@@ -13,13 +13,14 @@ ghost use Rattle.pipe_lead.specs.Leads.{HasLed, Leads, IfLasts, IsAnswered, IsAn
 use crate::answer::Answer;
 use crate::inputs::take_input;
 use crate::lead_end::LeadEnd;
-use crate::results::{print_refusal, print_results};
+use crate::lead_state::StatedActor;
+use crate::results::{print_refusal, print_results, print_state};
 use base_outside::{Sink, Source, write_all};
 use caller::Caller;
 use journal_core::OutOfMemory;
 use journal_session::{LineReader, Next};
 use pipe_seats::{Opener, PipeWire};
-use play_model::{Actor, scripts_are_playable};
+use play_model::scripts_are_playable;
 use std::alloc::Global;
 
 /// How much a segment's acceptance may grow to, by what `used_after` counts: with one line more it
@@ -56,12 +57,13 @@ fn print_answer<S: Source + Drop, K: Sink + Drop, O: Opener<S, K> + Drop>(
             Ok(())
         }
         Answer::Broken { rule } => print_refusal(out, rule),
+        Answer::State { state } => print_state(out, state),
     }
 }
 
 /// Takes a line of the input, and writes what is told of it; or how the process ends with it.
 #[tactic(auto, using(crate::proofs::LeadLaws::one_line))]
-fn answer_line<A: Actor, S: Source + Drop, K: Sink + Drop, O: Opener<S, K> + Drop, P: Sink>(
+fn answer_line<A: StatedActor, S: Source + Drop, K: Sink + Drop, O: Opener<S, K> + Drop, P: Sink>(
     alloc: Global,
     by: &mut A,
     seats: &mut Caller<PipeWire<S, K, O>>,
@@ -95,7 +97,7 @@ fn answer_line<A: Actor, S: Source + Drop, K: Sink + Drop, O: Opener<S, K> + Dro
 }
 
 /// Puts a `roll` in, as if it were a line of the input.
-fn put_roll<A: Actor, S: Source + Drop, K: Sink + Drop, O: Opener<S, K> + Drop, P: Sink>(
+fn put_roll<A: StatedActor, S: Source + Drop, K: Sink + Drop, O: Opener<S, K> + Drop, P: Sink>(
     alloc: Global,
     by: &mut A,
     seats: &mut Caller<PipeWire<S, K, O>>,
@@ -130,7 +132,13 @@ fn used_after(used: u64, line: &[u8]) -> u64 {
 /// Takes a line of the input, and behind it a `roll` where the open segment could become longer
 /// than one line can accept; or how the process ends with one of them.
 #[tactic(auto, using(crate::proofs::LeadLaws::in_time))]
-fn answer_in_time<A: Actor, S: Source + Drop, K: Sink + Drop, O: Opener<S, K> + Drop, P: Sink>(
+fn answer_in_time<
+    A: StatedActor,
+    S: Source + Drop,
+    K: Sink + Drop,
+    O: Opener<S, K> + Drop,
+    P: Sink,
+>(
     alloc: Global,
     by: &mut A,
     seats: &mut Caller<PipeWire<S, K, O>>,
@@ -175,7 +183,7 @@ fn end_at(next: Next) -> Option<LeadEnd>
 /// So many lines that they can't be counted end as a line too long does.
 #[tactic(auto, using(crate::proofs::LeadLaws::line_by_line))]
 pub fn lead_lines<
-    A: Actor,
+    A: StatedActor,
     S: Source + Drop,
     K: Sink + Drop,
     O: Opener<S, K> + Drop,
@@ -225,7 +233,14 @@ pub fn lead_lines<
 /// calls are those of some tasks and tails. All ends over which they went are those that the opener
 /// gave as their node's.
 #[tactic(auto, using(crate::proofs::LeadLaws::whole_life))]
-pub fn lead<A: Actor, S: Source + Drop, K: Sink + Drop, O: Opener<S, K> + Drop, I: Source, P: Sink>(
+pub fn lead<
+    A: StatedActor,
+    S: Source + Drop,
+    K: Sink + Drop,
+    O: Opener<S, K> + Drop,
+    I: Source,
+    P: Sink,
+>(
     alloc: Global,
     by: &mut A,
     seats: &mut Caller<PipeWire<S, K, O>>,

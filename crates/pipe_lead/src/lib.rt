@@ -5,10 +5,12 @@
 mod answer;
 mod inputs;
 mod lead_end;
+mod lead_state;
 mod leading;
 mod line_text;
 mod results;
 
 pub use answer::Answer;
 pub use lead_end::LeadEnd;
+pub use lead_state::{LeadState, StatedActor};
 pub use leading::{lead, lead_lines};

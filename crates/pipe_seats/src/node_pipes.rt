@@ -5,19 +5,17 @@ use crate::opener::Opener;
 use crate::opening::open_to_ask;
 use std::fs::Files;
 
-/// The folder of the pipes to nodes.
-const FOLDER: &str = "nodes";
-
-/// The pipes to nodes, `nodes/I.requests` and `nodes/I.replies` of node I, in the current folder.
+/// The pipes to nodes, `FOLDER/I.requests` and `FOLDER/I.replies` of node I.
 #[derive(Drop)]
 pub struct NodePipes<R> {
     rt: R,
+    folder: String,
 }
 
 impl<R> NodePipes<R> {
-    /// Those of this runtime.
-    pub fn new(rt: R) -> NodePipes<R> {
-        NodePipes { rt }
+    /// Those of this folder, by this runtime.
+    pub fn new(rt: R, folder: String) -> NodePipes<R> {
+        NodePipes { rt, folder }
     }
 }
 
@@ -25,6 +23,6 @@ impl<R: Files + AllocGlobal> Opener<FileSource<R::File>, FileSink<R::File>> for 
     ghost are_of = { λ node source sink. Unit {0} };
 
     fn open(&mut self, node: usize) -> Option<(FileSource<R::File>, FileSink<R::File>)> {
-        open_to_ask(&self.rt, FOLDER, node).ok()
+        open_to_ask(&self.rt, self.folder.as_str(), node).ok()
     }
 }

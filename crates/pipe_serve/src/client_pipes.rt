@@ -3,20 +3,17 @@ use crate::ports::Ports;
 use pipe_seats::{FileSink, FileSource, open_to_answer};
 use std::fs::Files;
 
-/// The folder of the pipes of clients.
-const FOLDER: &str = "clients";
-
-/// The pipes of clients, `clients/K.requests` and `clients/K.replies` of client K, in the current
-/// folder.
+/// The pipes of clients, `FOLDER/K.requests` and `FOLDER/K.replies` of client K.
 #[derive(Drop)]
 pub struct ClientPipes<R> {
     rt: R,
+    folder: String,
 }
 
 impl<R> ClientPipes<R> {
-    /// Those of this runtime.
-    pub fn new(rt: R) -> ClientPipes<R> {
-        ClientPipes { rt }
+    /// Those of this folder, by this runtime.
+    pub fn new(rt: R, folder: String) -> ClientPipes<R> {
+        ClientPipes { rt, folder }
     }
 }
 
@@ -24,6 +21,6 @@ impl<R: Files + AllocGlobal> Ports<FileSource<R::File>, FileSink<R::File>> for C
     ghost are_of = { λ client source sink. Unit {0} };
 
     fn open(&self, client: usize) -> Option<(FileSource<R::File>, FileSink<R::File>)> {
-        open_to_answer(&self.rt, FOLDER, client).ok()
+        open_to_answer(&self.rt, self.folder.as_str(), client).ok()
     }
 }

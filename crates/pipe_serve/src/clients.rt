@@ -214,8 +214,15 @@ where
     let reader = start_input(&shared, input)?;
     match shared.wait_for_end() {
         ServeEnd::Stopped => {
-            let seats = join_all::<R, D, P, S, K, J>(&shared.rt, threads);
             reader.join(&shared.rt);
+            if !shared.are_through(clients as u64) {
+                shared.close();
+                return Ok(Served {
+                    end: ServeEnd::Stopped,
+                    node: None,
+                });
+            }
+            let seats = join_all::<R, D, P, S, K, J>(&shared.rt, threads);
             Ok(Served {
                 end: ServeEnd::Stopped,
                 node: left_node::<R, D, P, S, K, J>(shared, keeper, seats),
@@ -234,10 +241,10 @@ where
 
 /// Serves a node to so many clients, a thread each, whose pipes are opened again and again, until
 /// the input ends or the node can't go on: the first end that comes is the process's. Where the
-/// input ended or failed all threads are joined: each sees it after its session, so that whoever
-/// has a pipe open is to close it, and one that waits for a client is to be let in. Where the disk
-/// failed or there was no memory no thread is waited for; no reply follows. Each session is one of
-/// `serve_session`.
+/// input ended or failed, all threads are joined that see it after their sessions within half a
+/// second. Where some don't, as one that waits for its client, no call of a client begins any more,
+/// the one that is under way is waited for, and no node is left. Where the disk failed or there was
+/// no memory no thread is waited for; no reply follows. Each session is one of `serve_session`.
 ///
 /// The node that is left is what one trail of requests made of the node that was served, each
 /// answered as such a node answers: of each client the trail has just the calls of its sessions, in

@@ -3,6 +3,7 @@
 #![tactic(auto)]
 
 mod byte_examples;
+mod call_count;
 mod client_cell;
 mod client_pipes;
 mod clients;

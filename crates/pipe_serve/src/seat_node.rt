@@ -2,6 +2,7 @@
 ghost use Rattle.std.specs.Prelude.{◌≡◌, ◌++◌, ◌∷◌, []};
 ghost use Rattle.pipe_serve.specs.Trails.{calls_of, seat_in};
 
+use crate::call_count::{CallCount, begin_call};
 use crate::client_cell::ClientCell;
 use crate::served_node::ServedNode;
 use journal_core::{Refusal, Reply, Request};
@@ -10,6 +11,7 @@ use play_threads::{Gate, GateSeat};
 use std::alloc::Global;
 use std::marker::Model;
 use std::sync::Wait;
+use std::time::Clock;
 
 /// The gate of a node that clients share.
 pub(crate) type NodeGate<D, J> = Gate<ServedNode<D, J>>;
@@ -38,10 +40,12 @@ fn ask_through<R: Wait, C: ClientCell>(
 
 /// A node behind its gate, as the sessions of a client ask it, by the client's seat: it answers one
 /// request at a time. Others ask it between two requests of a session, so that it tells no state.
+/// Where the process is to stop and no call may begin any more, one waits without end.
 #[derive(Drop)]
 pub(crate) struct SeatNode<'a, R, C: ClientCell> {
     rt: &'a R,
     gate: &'a Gate<C>,
+    calls: &'a CallCount,
     seat: GateSeat<C>,
     // how many answers told a fault of the disk
     faults: u64,
@@ -59,14 +63,20 @@ impl<'a, R, C: ClientCell> Model for SeatNode<'a, R, C> {
 }
 
 impl<'a, R, C: ClientCell> SeatNode<'a, R, C> {
-    /// The node behind this gate, at this seat.
-    pub(crate) fn new(rt: &'a R, gate: &'a Gate<C>, seat: GateSeat<C>) -> SeatNode<'a, R, C>
+    /// The node behind this gate, at this seat; these are the calls that are under way there.
+    pub(crate) fn new(
+        rt: &'a R,
+        gate: &'a Gate<C>,
+        calls: &'a CallCount,
+        seat: GateSeat<C>,
+    ) -> SeatNode<'a, R, C>
         requires own { seat.seat.table_id ≡ gate.now.table.shared.table_id }
         ensures { result ≡ seat_in seat.seat.table_id seat.caller seat.seat.me.0.seen 0 }
     {
         SeatNode {
             rt,
             gate,
+            calls,
             seat,
             faults: 0,
         }
@@ -79,6 +89,7 @@ impl<'a, R, C: ClientCell> SeatNode<'a, R, C> {
         let SeatNode {
             rt: _,
             gate: _,
+            calls: _,
             seat,
             faults: _,
         } = self;
@@ -86,7 +97,7 @@ impl<'a, R, C: ClientCell> SeatNode<'a, R, C> {
     }
 }
 
-impl<'a, R: Wait, C: ClientCell> SessionNode for SeatNode<'a, R, C> {
+impl<'a, R: Wait + Clock, C: ClientCell> SessionNode for SeatNode<'a, R, C> {
     ghost use Rattle.std.specs.Prelude.{◌≢◌, None};
     ghost use Rattle.journal_core.specs.declared.request.Request.{Request as AnyRequest};
     ghost use Rattle.journal_core.specs.declared.reply.Reply.{Reply as AnyReply};
@@ -103,7 +114,9 @@ impl<'a, R: Wait, C: ClientCell> SessionNode for SeatNode<'a, R, C> {
     ghost asked = { λ old r a new. IsSeatAnswer C.fits old r a new };
 
     fn ask(&mut self, _alloc: Global, request: &Request) -> Reply {
+        begin_call(self.rt, self.calls);
         let reply = ask_through(self.rt, self.gate, &mut self.seat, request);
+        self.calls.end();
         if matches!(&reply, Reply::Refused(Refusal::DiskFault)) {
             self.faults = self.faults.saturating_add(1);
         }

@@ -5,7 +5,7 @@ use disk_node::JournalNode;
 /// How a node's process ends.
 #[derive(Clone, Copy)]
 pub enum ServeEnd {
-    /// Its input ended or failed: every session was over, and every thread joined.
+    /// Its input ended or failed, and no call is under way.
     Stopped,
     /// The node's disk failed.
     DiskFault,

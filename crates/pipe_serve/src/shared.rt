@@ -5,6 +5,7 @@ ghost use Rattle.pipe_serve.specs.Serving.{IsReadOut, IsSharedAnswer};
 ghost use Rattle.pipe_serve.specs.Sessions.{IsSession, read_from, written_to};
 ghost use Rattle.pipe_serve.specs.Trails.{AreServed, IsAttended, IsSeatAnswer, at_pipes};
 
+use crate::call_count::{CallCount, close_calls};
 use crate::ending::Ending;
 use crate::origin::Origin;
 use crate::ports::Ports;
@@ -16,12 +17,19 @@ use crate::session_end::SessionEnd;
 use base_disk::Disk;
 use base_outside::{Sink, Source};
 use std::alloc::Global;
+use std::sync::atomic::{AtomicU64, Ordering};
 use std::sync::{Condvar, Mutex, Wait};
 use std::thread;
 use std::time::{Clock, Duration};
 
 /// For how many milliseconds pipes that can't be opened are left alone.
 const PAUSE: u64 = 100;
+
+/// How often it is looked whether all clients' threads are through, and for how many milliseconds
+/// they are left alone between two looks.
+const LOOKS: u64 = 50;
+
+const LOOK_PAUSE: u64 = 10;
 
 /// What all threads share: the gate of the node, and how the process is to end, once that is known.
 #[derive(Drop)]
@@ -30,6 +38,9 @@ pub(crate) struct Shared<R, D: Disk, P, J: Origin<D>> {
     alloc: Global,
     ports: P,
     gate: NodeGate<D, J>,
+    calls: CallCount,
+    // how many clients' threads are through
+    through: AtomicU64,
     ending: Mutex<Ending<D, J>>,
     ended: Condvar,
 }
@@ -44,6 +55,8 @@ impl<R, D: Disk, P, J: Origin<D>> Shared<R, D, P, J> {
             alloc,
             ports,
             gate,
+            calls: CallCount::new(),
+            through: AtomicU64::new(0),
             ending: Mutex::new(Ending::new()),
             ended: Condvar::new(),
         }
@@ -61,6 +74,8 @@ impl<R, D: Disk, P, J: Origin<D>> Shared<R, D, P, J> {
             alloc: _,
             ports: _,
             gate,
+            calls: _,
+            through: _,
             ending: _,
             ended: _,
         } = self;
@@ -109,6 +124,24 @@ impl<R: Wait, D: Disk, P, J: Origin<D>> Shared<R, D, P, J> {
         read_all(&self.rt, &mut input);
         self.end_with(ServeEnd::Stopped);
     }
+}
+
+impl<R: Wait + Clock, D: Disk, P, J: Origin<D>> Shared<R, D, P, J> {
+    /// Whether so many clients' threads are through, within half a second.
+    pub(crate) fn are_through(&self, clients: u64) -> bool {
+        for _ in 0..LOOKS {
+            if clients <= self.through.load(Ordering::SeqCst) {
+                return true;
+            }
+            thread::sleep(&self.rt, Duration::from_millis(LOOK_PAUSE));
+        }
+        false
+    }
+
+    /// From now on no call of a client begins at the node; it waits until none is under way.
+    pub(crate) fn close(&self) {
+        close_calls(&self.rt, &self.calls);
+    }
 
     /// Serves one session of a client at the node, as a session asks it.
     #[tactic(auto, using(crate::proofs::SharedLaws::sessions))]
@@ -126,9 +159,7 @@ impl<R: Wait, D: Disk, P, J: Origin<D>> Shared<R, D, P, J> {
             SessionEnd::OutOfMemory => self.end_with(ServeEnd::OutOfMemory),
         }
     }
-}
 
-impl<R: Wait + Clock, D: Disk, P, J: Origin<D>> Shared<R, D, P, J> {
     /// One session of a client, where its pipes can be opened.
     #[tactic(auto, using(crate::proofs::SharedLaws::served))]
     fn serve_once<S: Source + Drop, K: Sink + Drop>(
@@ -179,8 +210,9 @@ impl<R: Wait + Clock, D: Disk, P, J: Origin<D>> Shared<R, D, P, J> {
         requires fresh { seat.seat.me.0.seen ≡ [] }
         ensures { IsAttended (IsSharedAnswer D.tells D.view J.steady) (at_pipes P.are_of (read_from S.left S.faults) (written_to K.taken K.faults) client) seat.seat.table_id seat.caller result.seat.table_id result.caller result.seat.me.0.seen }
     {
-        let mut node = SeatNode::new(&self.rt, &self.gate, seat);
+        let mut node = SeatNode::new(&self.rt, &self.gate, &self.calls, seat);
         self.serve_sessions::<S, K>(client, &mut node);
+        self.through.fetch_add(1, Ordering::SeqCst);
         node.into_seat()
     }
 }

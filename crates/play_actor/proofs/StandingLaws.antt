@@ -1,5 +1,5 @@
 -- Which name nodes and actors are no standbys.
-use Rattle.std.proofs.Common.{◌≡◌, List, true, false, true≢false, Option, Some, None, Bor, refl, sym, ap, ◌∙◌, subst}
+use Rattle.std.proofs.Common.{ℕ, ◌≡◌, List, true, false, true≢false, Option, Some, None, Bor, refl, sym, ap, ◌∙◌, subst}
 use Rattle.std.specs.Prelude.{MatchOption}
 use Rattle.ns_edits.specs.Replay.{Image}
 use Rattle.writer_core.specs.Views.{WriterView}
@@ -11,9 +11,9 @@ use Rattle.play_model.specs.Actions.{ActorView}
 use Rattle.play_actor.specs.declared.role.Resting.{Resting}
 use Rattle.play_actor.specs.declared.role.Role.{Role}
 use Rattle.play_actor.specs.declared.role.Role.TheVariants as role
-use Rattle.play_actor.specs.Nodes.{NameView, RestsAt, RestsNowhere, IsServing}
+use Rattle.play_actor.specs.Nodes.{NameView, RestsAt, RestsNowhere, IsServing, standing}
 use Rattle.play_actor.specs.Roles.{writer_in, holding_in, StandsIn}
-use Rattle.play_actor.specs.Kinds.{IsStandbyAt, IsNoStandby}
+use Rattle.play_actor.specs.Kinds.{IsStandbyAt, IsNoStandby, IsActiveIn, IsNotActive, seen_name}
 
 -- ## A name node
 pub rests_in : (images : List Image) (r : Role) (at : Resting) (n : NameView) → record { writer = writer_in r; holding = holding_in images r } ≡ n → StandsIn r → r ≡ role.Standby at → RestsAt n at.standby
@@ -56,3 +56,32 @@ named_stands None n v h e = named_none n v h e
 named_stands (Some standby) n v h e = named_at n v standby.now h e
 
 pub ruleset no_standby = (unnamed_none)
+
+-- ## Who is active
+pub serves_in : (images : List Image) (a : ActiveView) (n : NameView) (epoch : ℕ) → IsServing a → n.writer ≡ a.writer → n.holding ≡ held images (standing a) → epoch ≡ a.writer.epoch
+    → IsActiveIn (seen_name n) epoch
+serves_in images a n epoch serves w h e = record {
+  holding = n.holding;
+  holds = refl;
+  free = ap (λ (x : Holding). x.work) h;
+  opened = ap (λ (x : WriterView). is_writing x.phase) w ∙ serves.opened;
+  epoch_is = ap (λ (x : WriterView). x.epoch) w ∙ sym e;
+}
+
+pub standby_serves_not : (n : NameView) → is_writing n.writer.phase ≡ false → IsNotActive (seen_name n)
+standby_serves_not n e epoch h = true≢false (sym h.opened ∙ e)
+
+pub broken_serves_not : (images : List Image) (at : StandbyView) (n : NameView) → n.holding ≡ with_work Broken (held images at) → IsNotActive (seen_name n)
+broken_serves_not images at n e epoch h =
+    let here : n.holding ≡ h.holding = cc h.holds in
+    let same : Broken ≡ Free = ap (λ (x : Holding). x.work) (sym e ∙ here) ∙ h.free in
+    cc same
+
+pub ruleset activity = (serves_in, standby_serves_not, broken_serves_not)
+
+pub unnamed_serves_not : (v : ActorView) → v.holds ≡ None → IsNotActive v
+unnamed_serves_not v e epoch h =
+    let same : None ≡ Some h.holding = sym e ∙ h.holds in
+    cc same
+
+pub ruleset no_activity = (unnamed_serves_not)

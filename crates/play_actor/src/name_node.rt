@@ -7,6 +7,7 @@ ghost use Rattle.play_names.specs.ImageDisks.{HoldsOn};
 ghost use Rattle.play_standby.specs.Standbys.{held};
 ghost use Rattle.play_actor.specs.Nodes.{new_name, begun_name, RestsAt, RestsNowhere, IsServing, standing};
 ghost use Rattle.play_actor.specs.Roles.{writer_in, holding_in, StandsIn};
+ghost use Rattle.play_actor.specs.Kinds.{IsActiveIn, IsNotActive, seen_name};
 
 use crate::role::{Resting, Role};
 use journal_core::OutOfMemory;
@@ -76,6 +77,17 @@ impl NameNode {
         match &self.role {
             Role::Standby(resting) => Some(&resting.standby),
             Role::Active(_) | Role::Broken(_) => None,
+        }
+    }
+
+    /// The epoch of its open segment, where it is active.
+    #[tactic(auto, using(crate::proofs::StandingLaws::activity))]
+    pub(crate) fn epoch(&self) -> Option<u64>
+        ensures { MatchOption result (IsNotActive (seen_name self.now)) (IsActiveIn (seen_name self.now)) }
+    {
+        match &self.role {
+            Role::Active(active) => Some(active.epoch()),
+            Role::Standby(_) | Role::Broken(_) => None,
         }
     }
 

@@ -3,7 +3,7 @@ ghost use Rattle.std.specs.Prelude.{◌≡◌, ◌≤◌, false, None, OnOk, IfO
 ghost use Rattle.caller.specs.Callers.{AreLater};
 ghost use Rattle.play_model.specs.Lines.{line_of};
 ghost use Rattle.play_model.specs.Actor.{last_of};
-ghost use Rattle.play_actor.specs.Kinds.{begun_actor, IsStandbyAt, IsNoStandby};
+ghost use Rattle.play_actor.specs.Kinds.{begun_actor, IsStandbyAt, IsNoStandby, IsActiveIn, IsNotActive};
 ghost use Rattle.play_model.specs.Actions.{ActorView, new_actor_view, has_names, kept_of, kept_by, action_of, IsIdleActor, MayCome, TakesIf};
 
 use crate::actions::{take_late, take_mark, take_task};
@@ -71,6 +71,20 @@ impl ScriptActor {
     {
         match &self.kind {
             Kind::Named(node) => node.standby(),
+            Kind::Raw(_) | Kind::Spent => None,
+        }
+    }
+}
+
+impl ScriptActor {
+    /// The epoch of its open segment, where the actor is active: it holds one then, and met no bad
+    /// entry.
+    #[tactic(auto, using(crate::proofs::StandingLaws::no_activity))]
+    pub fn epoch(&self) -> Option<u64>
+        ensures { MatchOption result (IsNotActive self.now) (IsActiveIn self.now) }
+    {
+        match &self.kind {
+            Kind::Named(node) => node.epoch(),
             Kind::Raw(_) | Kind::Spent => None,
         }
     }

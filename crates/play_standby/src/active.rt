@@ -76,6 +76,13 @@ impl Active {
         self.open
     }
 
+    /// The epoch of its writer.
+    pub fn epoch(&self) -> u64
+        ensures { result ≡ self.now.writer.epoch }
+    {
+        self.writer.epoch()
+    }
+
     /// The txid of the last record that was acknowledged.
     pub fn position(&self) -> u64
         ensures position { result ≡ self.now.position }

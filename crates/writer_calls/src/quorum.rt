@@ -122,6 +122,13 @@ impl QuorumWriter {
         Purging::of(self.run(alloc, peers, Task::Purge { min }))
     }
 
+    /// The epoch that it took last, or 0. Takes no memory.
+    pub fn epoch(&self) -> u64
+        ensures { result ≡ self.now.epoch }
+    {
+        self.writer.epoch()
+    }
+
     /// How many more bodies the open segment takes before a log is too long for it; 0 where no
     /// segment is open. Takes no memory.
     pub fn room(&self) -> u64

@@ -189,6 +189,13 @@ impl Writer {
         self.causes.as_slice()
     }
 
+    /// The epoch that it took last, or 0.
+    pub fn epoch(&self) -> u64
+        ensures { result ≡ self.now.view.epoch }
+    {
+        self.epoch
+    }
+
     /// How many more bodies the open segment takes before a log is too long for it; 0 where no
     /// segment is open, or a task is under way.
     pub fn room(&self) -> u64
