@@ -85,3 +85,8 @@ unnamed_serves_not v e epoch h =
     cc same
 
 pub ruleset no_activity = (unnamed_serves_not)
+
+-- An actor that is a name node is active just where the node is.
+pub named_serves : (result : Option ℕ) (n : NameView) (v : ActorView) → MatchOption result (IsNotActive (seen_name n)) (IsActiveIn (seen_name n)) → v ≡ seen_name n
+    → MatchOption result (IsNotActive v) (IsActiveIn v)
+named_serves result n v h e = subst (λ (a : ActorView). MatchOption result (IsNotActive a) (IsActiveIn a)) (sym e) h

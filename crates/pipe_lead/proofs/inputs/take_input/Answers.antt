@@ -1,5 +1,7 @@
+use Rattle.std.proofs.Common.{sym, ◌∙◌}
+use Rattle.std.proofs.lemmas.Slice.Eq.{bytes_eq-Decides}
 use Rattle.caller.specs.LaterLaws.{later_same}
-use Rattle.pipe_lead.proofs.TakeLaws.{other_taken}
+use Rattle.pipe_lead.proofs.TakeLaws.{other_taken, state_taken}
 use Rattle.pipe_lead.proofs.inputs.take_input.Goals as goal
 
 pub take_script-requires-clause-script : goal.take_script-requires-clause-script
@@ -16,3 +18,10 @@ returns-then-is_silent-clause-later g c = later_same g.W.WireModel g.met.W.Wire.
 
 pub returns-in-BadScript-clause-later : goal.returns-in-BadScript-clause-later
 returns-in-BadScript-clause-later g c = later_same g.W.WireModel g.met.W.Wire.readies_none c.args.caller.now
+
+pub returns-then-eq-clause-taken : goal.returns-then-eq-clause-taken
+returns-then-eq-clause-taken g c =
+    state_taken _ c.args.line.now c.state.result _ ((bytes_eq-Decides c.args.line.now c.as_slice.result.now).0 (sym c.eq.ensures ∙ c.if-eq.true) ∙ c.as_slice.ensures) c.state.ensures
+
+pub returns-then-eq-clause-later : goal.returns-then-eq-clause-later
+returns-then-eq-clause-later g c = later_same g.W.WireModel g.met.W.Wire.readies_none c.args.caller.now

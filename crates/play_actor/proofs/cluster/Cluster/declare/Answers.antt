@@ -2,11 +2,15 @@ use Rattle.std.proofs.Common.{rules, arith, ◌≡◌, ◌≤◌, ◌∙◌, sym
 use Rattle.std.proofs.lemmas.Grind.{common_steps}
 use Rattle.play_calls.specs.Logs.{LogView}
 use Rattle.play_actor.specs.Kept.{Kept}
+use Rattle.play_actor.specs.Shown.{AreSeated}
 use Rattle.play_actor.proofs.ActsTaken.{seated_more}
 use Rattle.play_actor.proofs.cluster.Cluster.declare.Goals as goal
 
 pub invariant_of-self : goal.invariant_of-self
-invariant_of-self g c =
+invariant_of-self g c = subst (AreSeated (length c.self.inside.cells.items)) (sym c.in_err-push.ensures.items) c.self.invariant
+
+pub invariant_of-self-2 : goal.invariant_of-self-2
+invariant_of-self-2 g c =
     let n : c.len-nodes.result ≡ length c.self.inside.cells.items = first_of (search rules, grind (arith, common_steps)) in
     seated_more g.A.Actor.seen (length c.self.inside.cells.items) c.self.inside.players.items c.push.new.self.items
     (record { name = c.in_ok-from_slice.field-0; actor = c.in_ok-new.field-0; log = c.in_ok-new-2.field-0 })
