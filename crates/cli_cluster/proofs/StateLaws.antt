@@ -20,6 +20,11 @@ broken_state a active standby able = by (is_writing a.writer.phase) refl
   where
     by : (b : Bool) → is_writing a.writer.phase ≡ b → ⊥
     by true e = active a.writer.epoch (record { holding = able.holding; holds = able.holds; free = able.free; opened = e; epoch_is = refl })
-    by false e = standby (record { space = able.holding.space; position = able.holding.position }) (record { images = able.holding.images; holds = able.holds ∙ ap (λ (w : Work). Some (record { space = able.holding.space; position = able.holding.position; images = able.holding.images; work = w })) able.free; rests = e })
+    by false e = standby (record { space = able.holding.space; position = able.holding.position }) (record {
+      images = able.holding.images;
+      holds = able.holds
+          ∙ ap (λ (w : Work). Some (record { space = able.holding.space; position = able.holding.position; images = able.holding.images; work = w })) able.free;
+      rests = e;
+    })
 
 pub ruleset states = (active_state, standby_state, broken_state)
