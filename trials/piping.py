@@ -156,7 +156,8 @@ class Client:
                     return told, True
             burst, waits = b'', 0
         self.write(burst, not told)
-        return told + self.hang_up(), False
+        rest = self.hang_up()
+        return told + rest, rest.endswith(b'bad\n')
 
 
 def sessions_of(given):

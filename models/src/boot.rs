@@ -35,6 +35,7 @@ pub fn tell_boot(cluster: &mut Cluster, donor: Option<Standby>) -> Vec<u8> {
             push_next_number(&mut text, standby.position);
             push_causes(&mut text, &causes);
         }
+        Tailed::BadEntry => unreachable!("what a play logs replays"),
     }
     text.extend_from_slice(b"\nend\n");
     text

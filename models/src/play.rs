@@ -123,12 +123,19 @@ impl Play {
         let line = [word, b" ", LEAD, rest, b"\n"].concat();
         match Script::of_line(&line, LEAD, nodes).next() {
             _ if text.is_empty() || text.starts_with(b"#") => {}
+            Some(Ok(Line::Takeover(_) | Line::Submit(..) | Line::Roll(_) | Line::Close(_) | Line::Tail(_))) if self.is_broken() => {}
+            Some(Ok(Line::Checkpoint(_) | Line::Reload(_) | Line::Trim(..))) if self.is_broken() => {}
             Some(Ok(line @ (Line::Takeover(_) | Line::Submit(..) | Line::Roll(_) | Line::Close(_) | Line::Tail(_)))) => self.take(line),
             Some(Ok(line @ (Line::Checkpoint(_) | Line::Reload(_) | Line::Trim(..)))) => self.take(line),
             Some(Err(bad)) => self.tell_number(0, b"= bad", bad.rule),
             _ => self.tell_number(0, b"= bad", 2),
         }
         std::mem::take(&mut self.cluster.told)
+    }
+
+    /// Whether the name node alone met a bad entry.
+    fn is_broken(&self) -> bool {
+        self.first_standby().is_some_and(|standby| standby.is_broken)
     }
 
     /// How many bytes its lists have so far.
@@ -209,8 +216,10 @@ impl Play {
             Ok(taken) => taken,
             Err(failure) => return self.tell_failure(actor, b"= takeover", &failure),
         };
-        if let Some(line) = self.catch_up(actor, first) {
-            return self.tell(actor, &line);
+        match self.catch_up(actor, first) {
+            Ok(()) => {}
+            Err(Some(line)) => return self.tell(actor, &line),
+            Err(None) => return,
         }
         self.counts.takeovers += 1;
         let mut line = b"= takeover".to_vec();
@@ -219,23 +228,25 @@ impl Play {
         self.tell(actor, &line);
     }
 
-    /// A name node tails up to the edit before its first segment, and only then is active; else the result line.
-    fn catch_up(&mut self, actor: usize, first: u64) -> Option<Vec<u8>> {
+    /// A name node tails up to the edit before its first segment, and only then is active; else the result line, or none behind a bad
+    /// entry.
+    fn catch_up(&mut self, actor: usize, first: u64) -> Result<(), Option<Vec<u8>>> {
         let (writer, mut net, standby) = self.parts(actor);
-        let standby = standby.as_mut()?;
+        let Some(standby) = standby else { return Ok(()) };
         if standby.position > first - 1 {
             standby.clear();
         }
         match standby.tail(&mut net, Some(first - 1)) {
             Tailed::CaughtUp => {
                 standby.position = first;
-                None
+                Ok(())
             }
+            Tailed::BadEntry => Err(None),
             tailed => {
                 writer.stop();
                 let mut line = b"= takeover".to_vec();
                 push_tailed(&mut line, standby.position, &tailed);
-                Some(line)
+                Err(Some(line))
             }
         }
     }
@@ -391,8 +402,10 @@ impl Play {
         let Some(standby) = standby else { return };
         let mut line = b"= tail".to_vec();
         let tailed = standby.tail(&mut net, None);
-        push_tailed(&mut line, standby.position, &tailed);
-        self.tell(actor, &line);
+        if !standby.is_broken {
+            push_tailed(&mut line, standby.position, &tailed);
+            self.tell(actor, &line);
+        }
     }
 
     /// `checkpoint` and `reload`, of a standby alone.
@@ -419,6 +432,9 @@ impl Play {
     pub fn state(&self) -> Vec<u8> {
         let mut line = Vec::new();
         if let Some(Actor { writer, standby: Some(standby), .. }) = self.actors.first() {
+            if standby.is_broken {
+                return b"= broken\n".to_vec();
+            }
             let (word, number) = if writer.is_active() { (b"= active".as_slice(), writer.epoch()) } else { (b"= standby".as_slice(), standby.position) };
             line.extend_from_slice(word);
             push_next_number(&mut line, number);
@@ -475,7 +491,7 @@ fn failure_line(word: &[u8], failure: &Failure) -> Vec<u8> {
     line
 }
 
-/// How a tail ended: ` T`, ` purged FIRST`, or ` behind T CAUSES`.
+/// How a tail ended: ` T`, ` purged FIRST`, or ` behind T CAUSES`; nothing is told of a bad entry.
 fn push_tailed(line: &mut Vec<u8>, position: u64, tailed: &Tailed) {
     match tailed {
         Tailed::CaughtUp => push_next_number(line, position),
@@ -488,5 +504,6 @@ fn push_tailed(line: &mut Vec<u8>, position: u64, tailed: &Tailed) {
             push_next_number(line, position);
             push_causes(line, causes);
         }
+        Tailed::BadEntry => {}
     }
 }

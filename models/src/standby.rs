@@ -26,19 +26,23 @@ pub enum Tailed {
     /// The nodes' logs begin at this txid, behind the next one.
     Purged(u64),
     Behind(Vec<Cause>),
+    /// An entry that can't be applied: from then on nothing is done and nothing told.
+    BadEntry,
 }
 
 /// A namespace at a position, and the images on the actor's disk, the oldest first.
 pub struct Standby {
     pub space: Space,
     pub position: u64,
+    /// Whether a bad entry was met.
+    pub is_broken: bool,
     images: Vec<Image>,
 }
 
 impl Standby {
     /// An empty namespace at position 0.
     pub fn new() -> Standby {
-        Standby { space: Space::new(), position: 0, images: Vec::new() }
+        Standby { space: Space::new(), position: 0, is_broken: false, images: Vec::new() }
     }
 
     /// A standby that begins from the newest of these images, the oldest first, or empty at 0.
@@ -108,7 +112,7 @@ impl Standby {
         mut read: impl FnMut(usize, u64) -> Option<Reply>,
     ) -> Tailed {
         let mut causes = Vec::new();
-        while until != Some(self.position) && causes.len() < nodes {
+        while !self.is_broken && until != Some(self.position) && causes.len() < nodes {
             match read(causes.len(), self.position + 1) {
                 Some(Reply::Edits(edits)) => {
                     self.apply(&edits.entries);
@@ -119,18 +123,21 @@ impl Standby {
             }
         }
         match until {
+            _ if self.is_broken => Tailed::BadEntry,
             Some(end) if end == self.position => Tailed::CaughtUp,
             _ => judge_tail(causes, majority),
         }
     }
 
-    /// Applies edits that were read, which follow the position.
+    /// Applies edits that were read, which follow the position, up to the first that can't be applied.
     fn apply(&mut self, entries: &[u8]) {
         for body in (Bodies { entries }) {
-            self.position += 1;
-            if let Ok(record) = Record::decode(body) {
-                let _ = self.space.apply(&record, self.position);
+            let applied = Record::decode(body).is_ok_and(|record| self.space.apply(&record, self.position + 1).is_ok());
+            if !applied {
+                self.is_broken = true;
+                return;
             }
+            self.position += 1;
         }
     }
 
