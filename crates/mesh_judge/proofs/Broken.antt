@@ -1,5 +1,5 @@
 -- Lists of which a part doesn't hold don't agree.
-use Rattle.std.proofs.Common.{◌≡◌, true, Decides, refl, Option, Some, None}
+use Rattle.std.proofs.Common.{true, Decides, refl, Option, Some, None}
 use Rattle.std.specs.Prelude.{MatchOption, is_none}
 use Rattle.mesh.specs.declared.whole.Mesh.{Mesh}
 use Rattle.mesh.specs.Agree.{Agrees, operator_of, record_of}

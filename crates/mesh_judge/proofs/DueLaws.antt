@@ -1,6 +1,6 @@
 -- How many copies are due, a line more: a call adds those that its marks want, and a copy takes
 -- one.
-use Rattle.std.proofs.Common.{◌≡◌, ◌≢◌, ℕ, zero, suc, ◌+◌, ◌-◌, ◌<◌, ◌≤◌, ◌==◌, List, [], ◌∷◌, ◌++◌, Bool, true, false, cond, Option, Some, None, length, refl, sym, ap, ◌∙◌, subst, arith, append-nil, inl, inr, ◌⊎◌}
+use Rattle.std.proofs.Common.{◌≡◌, ◌≢◌, ℕ, zero, suc, ◌+◌, ◌-◌, ◌≤◌, ◌==◌, List, [], ◌∷◌, ◌++◌, Bool, true, false, cond, Option, Some, None, length, refl, sym, ap, ◌∙◌, subst, arith, append-nil, inl, inr, ◌⊎◌}
 use Rattle.std.specs.Prelude.{slice_get, ◌&&◌}
 use Rattle.std.specs.List.{count_by}
 use Rattle.std.proofs.lemmas.Bool.{cond-true, cond-false, cases_eq, eq-eqb, ne_eqb}
@@ -51,7 +51,7 @@ asked_other k j q before r own off =
     by (inr some) = ap (λ (o : Option Request). cond (j == 0) None o) (get_other (calls_to k before) q (j - 1) (λ e. off (omega (arith, e, some))))
 
 -- the number is its
-asked_new : (k : ℕ) (q : Request) (before : List Record) (r : Record) → calls_to k (r ∷ []) ≡ q ∷ []
+pub asked_new : (k : ℕ) (q : Request) (before : List Record) (r : Record) → calls_to k (r ∷ []) ≡ q ∷ []
     → (asked_in k (next_number k before) before ≡ None) × (asked_in k (next_number k before) (before ++ r ∷ []) ≡ Some q)
 unfolding asked_in
 asked_new k q before r own =
@@ -98,7 +98,7 @@ new_mark node k n q r xs ys m at is none some =
     whole true b c e f = ap (λ (x : Bool). x && c) e ∙ f
     whole false b c e f = refl
 
-late_off : (k n : ℕ) (m : Mark) → (m.node ≢ k) ⊎ (m.number ≢ n) → is_late_at k n m ≡ false
+pub late_off : (k n : ℕ) (m : Mark) → (m.node ≢ k) ⊎ (m.number ≢ n) → is_late_at k n m ≡ false
 late_off k n m off = by (same_kind m.kind kind.Late) (m.node == k) (m.number == n) (tested off)
   where
     tested : (m.node ≢ k) ⊎ (m.number ≢ n) → ((m.node == k) ≡ false) ⊎ ((m.number == n) ≡ false)
@@ -111,11 +111,11 @@ late_off k n m off = by (same_kind m.kind kind.Late) (m.node == k) (m.number == 
     by true true c (inr e) = e
     by true false c (inr e) = refl
 
-own_call : (k : ℕ) (q : Request) (t : Told) → calls_to k (Call k q t ∷ []) ≡ q ∷ []
+pub own_call : (k : ℕ) (q : Request) (t : Told) → calls_to k (Call k q t ∷ []) ≡ q ∷ []
 unfolding calls_to
 own_call k q t = cond-true (k == k) (q ∷ []) [] (eq-eqb k k refl)
 
-other_call : (i k : ℕ) (q : Request) (t : Told) → i ≢ k → calls_to i (Call k q t ∷ []) ≡ []
+pub other_call : (i k : ℕ) (q : Request) (t : Told) → i ≢ k → calls_to i (Call k q t ∷ []) ≡ []
 unfolding calls_to
 other_call i k q t off = cond-false (k == i) (q ∷ []) [] (ne_eqb k i (λ e. off (sym e)))
 

@@ -9,6 +9,8 @@ pub mod MatchLaws
 pub mod KeyLaws
 pub mod DueLaws
 pub mod MarkLaws
+pub mod PlanLaws
+pub mod UncalledLaws
 pub mod Chores
 pub mod Leading
 pub mod LeadingCode

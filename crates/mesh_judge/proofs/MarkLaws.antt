@@ -29,7 +29,7 @@ use Rattle.mesh_judge.specs.declared.marking.Numbers.{Numbers}
 use Rattle.mesh_judge.specs.declared.marking.MarkTable.{MarkTable}
 use Rattle.mesh_judge.specs.declared.marking.CallTable.{CallTable}
 use Rattle.mesh_judge.specs.Keys.{is_ask, ask_key, call_key, count_of}
-use Rattle.mesh_judge.specs.Marking.{as_marked, is_late_at, KnowsMarks, KnowsLate, KnowsPlan, KnowsCalls, IsDue, LineIsMarked, LineIsCopied}
+use Rattle.mesh_judge.specs.Marking.{as_marked, is_late_at, KnowsMarks, KnowsLate, KnowsPlan, KnowsNext, KnowsCalls, IsDue, LineIsMarked, LineIsCopied}
 use Rattle.mesh_judge.proofs.Deciding.{front}
 use Rattle.mesh_judge.proofs.KeyLaws.{call_tested}
 use Rattle.mesh_judge.proofs.DueLaws.{none_of, marked_call, marked_stays, copies_more}
@@ -90,7 +90,7 @@ one_mark i plan m l is = take_more plan i m l ∙ ap (λ x. take i plan ++ x ∷
 
 -- ## Calls so far
 -- no more than there are lines
-calls_fit : (k : ℕ) (xs : List Record) → length (calls_to k xs) ≤ length xs
+pub calls_fit : (k : ℕ) (xs : List Record) → length (calls_to k xs) ≤ length xs
 unfolding calls_to
 calls_fit k [] = omega arith
 calls_fit k (Call i q t ∷ xs) = by (i == k) (calls_fit k xs)
@@ -111,11 +111,11 @@ unfolding calls_to
 other_call k node q t e = ap (λ b. cond b (q ∷ []) []) e
 
 -- the number of the next call, after a call to this node, and after a line that is none
-number_more : (k node : ℕ) (before : List Record) (q : Request) (t : Told) → node ≡ k → next_number k (before ++ Call node q t ∷ []) ≡ next_number k before + 1
+pub number_more : (k node : ℕ) (before : List Record) (q : Request) (t : Told) → node ≡ k → next_number k (before ++ Call node q t ∷ []) ≡ next_number k before + 1
 number_more k node before q t e =
     ap (λ l. length l + 1) (calls_append k before (Call node q t ∷ []) ∙ ap (λ l. calls_to k before ++ l) (own_call k node q t e)) ∙ ap (λ n. n + 1) (length-append (calls_to k before) (q ∷ []))
 
-number_stays : (k : ℕ) (before : List Record) (r : Record) → calls_to k (r ∷ []) ≡ [] → next_number k (before ++ r ∷ []) ≡ next_number k before
+pub number_stays : (k : ℕ) (before : List Record) (r : Record) → calls_to k (r ∷ []) ≡ [] → next_number k (before ++ r ∷ []) ≡ next_number k before
 number_stays k before r e = ap (λ l. length l + 1) (calls_append k before (r ∷ []) ∙ ap (λ l. calls_to k before ++ l) e ∙ append-nil (calls_to k before))
 
 pub number_fits : (nodes i most : ℕ) (plan : List Mark) (before : List Record) (calls : CallTable) → i < length calls.next.items
@@ -137,26 +137,56 @@ marked_at nodes node number n plan kd lists x low known is e =
 
 -- ## One more line
 -- the number of the call that comes next to a node
+pub number_at : (nodes node number : ℕ) (before : List Record) (next : List ℕ) → (1 ≤ node) × (node ≤ nodes) → number ≡ get_or next (node - 1) number → KnowsNext nodes before next
+    → number ≡ next_number node before
+number_at nodes node number before next low is known =
+    let a = at_node nodes node low in let inside : node - 1 < length next = omega (arith, low.0, low.1, known.count) in
+    is ∙ get_or_default next (node - 1) number 0 inside ∙ known.next (node - 1) a.0 ∙ ap (λ k. next_number k before) a.1
+
+nexts : (nodes : ℕ) (plan : List Mark) (before : List Record) (calls : CallTable) → KnowsCalls nodes plan before calls → KnowsNext nodes before calls.next.items
+nexts nodes plan before calls h = record { count = h.count; next = h.next }
+
 pub number_is : (nodes node number : ℕ) (plan : List Mark) (before : List Record) (calls : CallTable) → (1 ≤ node) × (node ≤ nodes)
     → number ≡ get_or calls.next.items (node - 1) number → KnowsCalls nodes plan before calls → number ≡ next_number node before
-number_is nodes node number plan before calls low is known =
-    let a = at_node nodes node low in let inside : node - 1 < length calls.next.items = omega (arith, low.0, low.1, known.count) in
-    is ∙ get_or_default calls.next.items (node - 1) number 0 inside ∙ known.next (node - 1) a.0 ∙ ap (λ k. next_number k before) a.1
+number_is nodes node number plan before calls low is known = number_at nodes node number before calls.next.items low is (nexts nodes plan before calls known)
+
+-- those of all nodes, after a call
+pub next_add : (nodes node number : ℕ) (before : List Record) (p : Request) (t : Told) (old new : List ℕ) → (1 ≤ node) × (node ≤ nodes) → number ≡ get_or old (node - 1) number
+    → new ≡ set old (node - 1) (number + 1) → KnowsNext nodes before old → KnowsNext nodes (before ++ Call node p t ∷ []) new
+unfolding Alike
+next_add nodes node number before p t old new low is grown known =
+    record { count = ap length grown ∙ length-set old (node - 1) (number + 1) ∙ known.count; next = λ i less. next i less (alike node (i + 1)) }
+  where
+    inside : node - 1 < length old
+    inside = omega (arith, low.0, low.1, known.count)
+
+    next : (i : ℕ) → i < nodes → Alike node (i + 1) → get_or new i 0 ≡ next_number (i + 1) (before ++ Call node p t ∷ [])
+    next i less (inl e) =
+        let at : node - 1 ≡ i = omega (arith, e.1) in
+        ap (λ l. get_or l i 0) grown ∙ subst (λ x. get_or (set old (node - 1) (number + 1)) x 0 ≡ number + 1) at (get_or-set_same old (node - 1) (number + 1) 0 inside)
+        ∙ ap (λ n. n + 1) (number_at nodes node number before old low is known ∙ ap (λ k. next_number k before) e.1) ∙ sym (number_more (i + 1) node before p t e.1)
+    next i less (inr e) =
+        ap (λ l. get_or l i 0) grown ∙ get_or-set_other old (node - 1) i (number + 1) 0 (λ g. e.1 (omega (arith, g, low.0))) ∙ known.next i less
+        ∙ sym (number_stays (i + 1) before (Call node p t) (other_call (i + 1) node p t e.0))
+
+-- and after a line that is none
+pub next_stays : (nodes : ℕ) (before : List Record) (r : Record) (next : List ℕ) → ((k : ℕ) → calls_to k (r ∷ []) ≡ []) → KnowsNext nodes before next → KnowsNext nodes (before ++ r ∷ []) next
+next_stays nodes before r next none known = record { count = known.count; next = λ i less. known.next i less ∙ sym (number_stays (i + 1) before r (none (i + 1))) }
 
 -- a call, of which as many copies are due as it has late marks
 pub calls_add : (nodes node number many : ℕ) (plan : List Mark) (before : List Record) (p : Request) (t : Told) (old new : CallTable) (marks : MarkTable) → (1 ≤ node) × (node ≤ nodes)
     → number ≡ get_or old.next.items (node - 1) number → many ≡ count_of marks.late (call_key node number) → new.next.items ≡ set old.next.items (node - 1) (number + 1)
     → ((k : ℕ) (r : Request) → count_of new.due (ask_key k r) ≡ count_of old.due (ask_key k r) + cond (is_ask k r node p) many 0)
     → KnowsPlan nodes plan marks → KnowsCalls nodes plan before old → KnowsCalls nodes plan (before ++ Call node p t ∷ []) new
-unfolding Alike is_copy_of
+unfolding is_copy_of
 calls_add nodes node number many plan before p t old new marks low is many_is grown more marked known = record {
-  count = ap length grown ∙ length-set old.next.items (node - 1) (number + 1) ∙ known.count;
-  next = λ i less. next i less (alike node (i + 1));
+  count = next.count;
+  next = next.next;
   due = λ k q. due k q (more k q) (known.due k q) (marked_call plan k node p q t before) (none_more (is_copy_of k q) before (Call node p t) refl);
 }
   where
-    inside : node - 1 < length old.next.items
-    inside = omega (arith, low.0, low.1, known.count)
+    next : KnowsNext nodes (before ++ Call node p t ∷ []) new.next.items
+    next = next_add nodes node number before p t old.next.items new.next.items low is grown (nexts nodes plan before old known)
 
     wanted : many ≡ count_by (is_late_at node (next_number node before)) plan
     wanted = many_is ∙ marked.late node number ∙ ap (λ (n : ℕ). count_by (is_late_at node n) plan) (number_is nodes node number plan before old low is known)
@@ -171,20 +201,11 @@ calls_add nodes node number many plan before p t old new marks low is many_is gr
         ap (λ (n : ℕ). cond (is_ask k q node p) n 0) wanted in
         omega (arith, e, f, g, h, same)
 
-    next : (i : ℕ) → i < nodes → Alike node (i + 1) → get_or new.next.items i 0 ≡ next_number (i + 1) (before ++ Call node p t ∷ [])
-    next i less (inl e) =
-        let at : node - 1 ≡ i = omega (arith, e.1) in
-        ap (λ l. get_or l i 0) grown ∙ subst (λ x. get_or (set old.next.items (node - 1) (number + 1)) x 0 ≡ number + 1) at (get_or-set_same old.next.items (node - 1) (number + 1) 0 inside)
-        ∙ ap (λ n. n + 1) (number_is nodes node number plan before old low is known ∙ ap (λ k. next_number k before) e.1) ∙ sym (number_more (i + 1) node before p t e.1)
-    next i less (inr e) =
-        ap (λ l. get_or l i 0) grown ∙ get_or-set_other old.next.items (node - 1) i (number + 1) 0 (λ g. e.1 (omega (arith, g, low.0))) ∙ known.next i less
-        ∙ sym (number_stays (i + 1) before (Call node p t) (other_call (i + 1) node p t e.0))
-
 calls_stay : (nodes : ℕ) (plan : List Mark) (before : List Record) (r : Record) (calls : CallTable) → ((k : ℕ) → calls_to k (r ∷ []) ≡ [])
     → ((k : ℕ) (q : Request) → is_copy_of k q r ≡ false) → KnowsCalls nodes plan before calls → KnowsCalls nodes plan (before ++ r ∷ []) calls
 calls_stay nodes plan before r calls none other h = record {
   count = h.count;
-  next = λ i less. h.next i less ∙ sym (number_stays (i + 1) before r (none (i + 1)));
+  next = (next_stays nodes before r calls.next.items none (nexts nodes plan before calls h)).next;
   due = λ k q. ap (λ (n : ℕ). count_of calls.due (ask_key k q) + n) (none_more (is_copy_of k q) before r (other k q)) ∙ h.due k q ∙ sym (marked_stays plan k q before r none);
 }
 
@@ -230,7 +251,7 @@ unfolding is_late_of is_request
 nothing_late k q m =
     ap (λ (o : Option Request). same_kind m.kind kind.Late && ((m.node == k) && is_request q o)) (nothing_asked m.node m.number) ∙ none_of (same_kind m.kind kind.Late) (m.node == k)
 
-none_called : (plan : List Mark) (k : ℕ) (q : Request) → marked_late plan k q [] ≡ 0
+pub none_called : (plan : List Mark) (k : ℕ) (q : Request) → marked_late plan k q [] ≡ 0
 none_called [] k q = refl
 none_called (m ∷ plan) k q =
     let here : one_if (is_late_of k q [] m) ≡ 0 = ap one_if (nothing_late k q m) in

@@ -7,5 +7,7 @@ pub mod Keys
 pub mod Matching
 pub mod Parts
 pub mod Marking
+pub mod Plans
+pub mod Fronts
 pub mod Leading
 pub mod Broken

@@ -49,6 +49,11 @@ pub record KnowsPlan (nodes : ℕ) (plan : List Mark) (marks : MarkTable) : Type
   pub muted : KnowsMarks nodes plan kind.Muted marks.muted.items
   pub late : KnowsLate plan marks.late
 
+-- node by node, the number of the call that comes after these lines
+pub record KnowsNext (nodes : ℕ) (before : List Record) (numbers : List ℕ) : Type 0 where
+  pub count : length numbers ≡ nodes
+  pub next : (i : ℕ) → i < nodes → slice_index numbers i ≡ next_number (i + 1) before
+
 -- node by node, the number of the call that comes after these lines; and how many copies of each
 -- request to each node are still due
 pub record KnowsCalls (nodes : ℕ) (plan : List Mark) (before : List Record) (calls : CallTable) : Type 0 where

@@ -136,7 +136,7 @@ fn marks_of(alloc: Global, nodes: usize, plan: &[Mark]) -> Result<MarkTable, Out
 }
 
 /// The first number, for as many nodes.
-fn first_numbers(alloc: Global, nodes: usize) -> Result<Vec<u64>, OutOfMemory>
+pub(crate) fn first_numbers(alloc: Global, nodes: usize) -> Result<Vec<u64>, OutOfMemory>
     ensures { IfOk result (λ numbers. numbers.items ≡ replicate nodes 1) }
 {
     let numbers = vec![in alloc; 1u64; nodes]?;
@@ -191,7 +191,7 @@ fn is_line_marked(
 
 /// So many more copies of a request to a node are due; of most requests none is.
 #[tactic(auto, using(crate::proofs::KeyLaws::none_added))]
-fn add_due(
+pub(crate) fn add_due(
     alloc: Global,
     due: &mut Counts,
     node: usize,

@@ -1,10 +1,11 @@
 //! Whether of each node and each caller both list the same.
-ghost use Rattle.std.specs.Prelude.{◌≡◌, ◌<◌, ◌≤◌, ◌+◌, ℕ, [], Decides, IfOk, length, slice_index_or, replicate};
+ghost use Rattle.std.specs.Prelude.{◌≡◌, ◌<◌, ◌≤◌, ◌+◌, ℕ, [], Decides, IfOk, MatchOption, length, slice_index_or, replicate};
 ghost use Rattle.journal_history.specs.declared.node_ask.NodeAsk.TheVariants.{Act};
 ghost use Rattle.journal_history.specs.Listed.{shown_ask};
 ghost use Rattle.mesh.specs.Agree.{operator_of, history_at};
 ghost use Rattle.mesh.specs.Matches.{StandsFor, done_or_idle, IsSame, reached, CallersWithin};
-ghost use Rattle.mesh_judge.specs.Matching.{IsNext, KnowsPlaces, KnowsAllPlaces, AreSameAt};
+ghost use Rattle.mesh_judge.specs.declared.matching.Unlike.TheVariants as unlike;
+ghost use Rattle.mesh_judge.specs.Matching.{IsNext, KnowsPlaces, KnowsAllPlaces, AreSameAt, IsUnlikeIn, IsUnlike, AreTaken, IsLeft};
 ghost use Rattle.mesh_judge.specs.Parts.{IsSized, RecordsWithin, HistoriesWithin, AllSame};
 
 use crate::equality::{same_reply, same_request};
@@ -18,6 +19,16 @@ use std::alloc::Global;
 #[derive(Drop)]
 pub(crate) struct ReachTable {
     by_node: Vec<ReachList>,
+}
+
+/// A line with which a node and a caller first list otherwise, by the indices of its list and of
+/// itself, from 0.
+#[derive(Clone, Copy)]
+pub enum Unlike {
+    /// Of a node: its caller doesn't list it so next.
+    AtNode { node: usize, line: usize },
+    /// Of a caller: the node that it reached lists no more of the caller.
+    AtCaller { caller: usize, line: usize },
 }
 
 /// It is this request, or a late copy of it.
@@ -73,7 +84,7 @@ fn is_done_or_idle(answer: &NodeAnswer, done: bool) -> bool
 
 /// The caller's line and the node's are of one event.
 #[tactic(auto, unfolding(mesh::specs::Matches::IsSame))]
-pub fn is_same(line: &ListedRecord, at_node: &ListedLine) -> bool
+fn is_same(line: &ListedRecord, at_node: &ListedLine) -> bool
     ensures { Decides result (IsSame line.now at_node.now) }
 {
     let ok = NodeAnswer::OK;
@@ -109,18 +120,20 @@ fn is_next(
     }
 }
 
-/// No line that reached the node is left.
-fn are_all_taken(tables: &[ReachTable], index: usize, taken: &[usize]) -> bool
+/// The first line that reached the node and is left, of the first caller of whose lines one is.
+fn first_left(tables: &[ReachTable], index: usize, taken: &[usize]) -> Option<Unlike>
     requires count { length taken.now ≡ length tables.now }
     requires nodes { (c : ℕ) (d : ReachTable) → c < length tables.now → index < length (slice_index_or tables.now c d).by_node.items }
-    ensures { Decides result ((c : ℕ) (d : ReachTable) → c < length tables.now → length (slice_index_or (slice_index_or tables.now c d).by_node.items index []) ≤ slice_index_or taken.now c 0) }
+    ensures { MatchOption result (AreTaken tables.now index taken.now (length tables.now)) (λ u. (caller : ℕ) × (line : ℕ) × (u ≡ unlike.AtCaller caller line) × IsLeft tables.now index taken.now caller line) }
 {
     for (caller, table) in tables.iter().enumerate() {
-        if taken[caller] < table.by_node[index].as_slice().len() {
-            return false;
+        let reached = table.by_node[index].as_slice();
+        if taken[caller] < reached.len() {
+            let line = reached[taken[caller]].place.saturating_sub(1);
+            return Some(Unlike::AtCaller { caller, line });
         }
     }
-    true
+    None
 }
 
 /// No line of any caller is taken yet.
@@ -131,23 +144,24 @@ fn none_taken(alloc: Global, callers: usize) -> Result<Vec<usize>, OutOfMemory>
     Ok(taken)
 }
 
-/// The node with this index, from 0, and each caller list the same of each other, each line once
-/// and in order.
-fn are_same_at(
+/// Where the node with this index, from 0, and a caller first list otherwise, unless both list the
+/// same of each other, each line once and in order.
+fn unlike_at(
     alloc: Global,
     mesh: &Mesh,
     tables: &[ReachTable],
     index: usize,
-) -> Result<bool, OutOfMemory>
+) -> Result<Option<Unlike>, OutOfMemory>
     requires known { KnowsAllPlaces mesh.now tables.now }
     requires sized { IsSized mesh.now }
     requires node { index < mesh.now.nodes }
     requires callers { CallersWithin (operator_of mesh.now) (history_at mesh.now index) }
-    ensures { IfOk result (λ are_same. Decides are_same (AreSameAt mesh.now index)) }
+    ensures { IfOk result (λ found. MatchOption found (AreSameAt mesh.now index) (λ u. IsUnlikeIn mesh.now index u × (AreSameAt mesh.now index → ⊥))) }
 {
     let records = mesh.records.as_slice();
     let mut taken = none_taken(alloc, tables.len())?;
-    for line in mesh.histories.as_slice()[index].as_slice() {
+    let histories = mesh.histories.as_slice();
+    for (place, line) in histories[index].as_slice().iter().enumerate() {
         let caller = line.caller() as usize;
         let number = taken[caller];
         if !is_next(
@@ -157,11 +171,13 @@ fn are_same_at(
             number,
             line,
         ) {
-            return Ok(false);
+            let node = index;
+            let line = place;
+            return Ok(Some(Unlike::AtNode { node, line }));
         }
         taken[caller] = number + 1;
     }
-    Ok(are_all_taken(tables, index, &taken))
+    Ok(first_left(tables, index, &taken))
 }
 
 /// Record by record, the lines that reached each node.
@@ -179,6 +195,25 @@ fn tables_of(alloc: Global, mesh: &Mesh) -> Result<Vec<ReachTable>, OutOfMemory>
     Ok(tables)
 }
 
+/// Where a node and a caller first list otherwise, unless each node and each caller list the same of
+/// each other, each line once and in order. `OutOfMemory` where there isn't memory for the places of
+/// the callers' lines.
+pub fn unlike_line(alloc: Global, mesh: &Mesh) -> Result<Option<Unlike>, OutOfMemory>
+    requires sized { IsSized mesh.now }
+    requires within { RecordsWithin mesh.now }
+    requires callers { HistoriesWithin mesh.now }
+    ensures { IfOk result (λ found. MatchOption found (AllSame mesh.now) (λ u. IsUnlike mesh.now u × (AllSame mesh.now → ⊥))) }
+{
+    let tables = tables_of(alloc, mesh)?;
+    for index in 0..mesh.nodes {
+        let found = unlike_at(alloc, mesh, &tables, index)?;
+        if found.is_some() {
+            return Ok(found);
+        }
+    }
+    Ok(None)
+}
+
 /// Each node and each caller list the same of each other, each line once and in order.
 pub(crate) fn are_all_same(alloc: Global, mesh: &Mesh) -> Result<bool, OutOfMemory>
     requires sized { IsSized mesh.now }
@@ -186,12 +221,6 @@ pub(crate) fn are_all_same(alloc: Global, mesh: &Mesh) -> Result<bool, OutOfMemo
     requires callers { HistoriesWithin mesh.now }
     ensures { IfOk result (λ are_same. Decides are_same (AllSame mesh.now)) }
 {
-    let tables = tables_of(alloc, mesh)?;
-    for index in 0..mesh.nodes {
-        let are_same = are_same_at(alloc, mesh, &tables, index)?;
-        if !are_same {
-            return Ok(false);
-        }
-    }
-    Ok(true)
+    let found = unlike_line(alloc, mesh)?;
+    Ok(found.is_none())
 }

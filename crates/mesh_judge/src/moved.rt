@@ -46,7 +46,7 @@ fn is_at_once(refusal: &Refusal) -> bool
 
 /// A request that was answered so moved its node.
 #[tactic(auto, unfolding(journal_history::specs::Moving::moves))]
-fn moves(request: &Request, reply: &Reply) -> bool
+pub fn moves(request: &Request, reply: &Reply) -> bool
     ensures { result ≡ moves request.now reply.now }
 {
     let at_once = match reply {

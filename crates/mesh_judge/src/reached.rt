@@ -76,7 +76,7 @@ pub fn node_reached(line: &ListedRecord) -> Option<usize>
 }
 
 /// The line is a call whose reply was lost.
-fn is_muted(line: &ListedRecord) -> bool
+pub fn is_muted(line: &ListedRecord) -> bool
     ensures { result ≡ is_muted (Some line.now) }
 {
     matches!(

@@ -73,7 +73,7 @@ fn push_request(key: &mut Vec<u64>, request: &Request) -> Result<(), OutOfMemory
 }
 
 /// A request to a node as a list of numbers: equal lists are of one node and of equal requests.
-pub fn key_of(alloc: Global, node: usize, request: &Request) -> Result<Vec<u64>, OutOfMemory>
+pub(crate) fn key_of(alloc: Global, node: usize, request: &Request) -> Result<Vec<u64>, OutOfMemory>
     ensures { IfOk result (λ key. key.items ≡ ask_key node request.now) }
 {
     let mut key = Vec::new(alloc);

@@ -1,6 +1,7 @@
 -- Each report of lists within the limits is read as lists with that text.
 use Rattle.std.proofs.Common.{ℕ, zero, suc, ◌≡◌, ◌≢◌, ◌<◌, ◌≤◌, ◌+◌, ◌-◌, ◌^◌, List, [], ◌∷◌, ◌++◌, Bool, true, false, Some, None, length, drop, refl, sym, ap, subst, ◌∙◌, arith, inl}
 use Rattle.std.proofs.Common.{append-nil, append_assoc, decimal}
+use Rattle.std.proofs.lemmas.List.{length-drop, take-append-drop}
 use Rattle.std.specs.Prelude.{codes, slice_get, unwrap_or, if◌then◌else◌}
 use Rattle.std.specs.List.{AllByRecursion}
 use Rattle.std.specs.Str.{bytes_eq}
@@ -11,6 +12,7 @@ use Rattle.journal_history.specs.declared.history_line.HistoryLine.{HistoryLine}
 use Rattle.journal_history.specs.declared.record.Record.{Record}
 use Rattle.ns_tree.specs.declared.end.End.{End}
 use Rattle.mesh.specs.declared.whole.Mesh.{Mesh}
+use Rattle.mesh.specs.Agree.{operator_of}
 use Rattle.play_script.specs.Lines.{Lacks}
 use Rattle.play_report.specs.Text.{operator, caller_name, arrow, ask_text, answer_text, history_line_text, history_text, node_text, nodes_text, operator_text, actors_text, text_of}
 use Rattle.report_judge.specs.declared.rules.Rule.{Rule}
@@ -21,7 +23,7 @@ use Rattle.report_judge.specs.declared.answer.Lists.{Lists}
 use Rattle.report_judge.specs.Pieces.{pieces, Front, Taken, Broken, then_, IsBroken, Stops}
 use Rattle.report_judge.specs.Reading.{number_within, nodes_in, actors_in, operator_in, end_in, no_callers, callers_in, with_record, names_from, first_by, first_in, ListsView, read_as, lists_with}
 use Rattle.report_judge.specs.Reading.{lists_in, shown, printed, read_back, lists_of}
-use Rattle.report_judge.specs.Reads.{IsReadAs}
+use Rattle.report_judge.specs.Reads.{IsMarkedIfAny, IsReadAs}
 use Rattle.report_judge.specs.Written.{IsRecordLine, AreWritten, NoReport}
 use Rattle.report_judge.specs.Complete.{bared, SpellsOtherwise, IsUnread}
 use Rattle.report_judge.proofs.PieceLaws.{first_piece, has_piece, HasPiece}
@@ -73,12 +75,15 @@ nodes_same ends took node [] e = refl
 nodes_same ends took node (h ∷ hs) e = λ i. codes "node" ++ numbers_text (node ∷ []) ++ 10 ∷ [] ++ history_same ends took h e i ++ nodes_same ends took (node + 1) hs e i
 
 -- ## The whole
--- Lists were read of a text, and have it.
-pub record ReadsAs (text : List ℕ) (ends : List End) : Type 0 where
+-- Lists were read of the text of these, and have it; but for what actors hold they are the same.
+pub record ReadsAs (lists : Lists) : Type 0 where
   pub view : ListsView
-  pub are : lists_in (pieces text) ≡ Taken view []
-  pub named : then_ (first_in (pieces text)) (λ nodes rest. lists_with nodes (bared ends) rest) ≡ Taken view []
-  pub same : printed view ≡ text
+  pub are : lists_in (pieces (text_of lists.mesh lists.ends)) ≡ Taken view []
+  pub named : then_ (first_in (pieces (text_of lists.mesh lists.ends))) (λ nodes rest. lists_with nodes (bared lists.ends) rest) ≡ Taken view []
+  pub same : printed view ≡ text_of lists.mesh lists.ends
+  pub nodes : view.nodes ≡ lists.mesh.nodes
+  pub histories : view.histories ≡ lists.mesh.histories
+  pub records : length lists.mesh.records ≡ length lists.ends + 1 → view.callers.records ≡ lists.mesh.records
 
 callers_step : (n : ℕ) (names : List End) (ps rest left : List (List ℕ)) (actors all : Callers) → actors_in n names no_callers ps ≡ Taken actors rest → operator_in n actors rest ≡ Taken all left
     → end_in left ≡ Taken tt [] → callers_in n names no_callers ps ≡ Taken all []
@@ -118,7 +123,7 @@ unfolding text_of
 same_text n ends took hs histories records told m a b c d e =
     λ i. codes "nodes" ++ numbers_text (sym a i ∷ []) ++ 10 ∷ [] ++ (d ∙ ap (nodes_text ends 1) (sym b)) i ++ (e ∙ ap (actors_text ends) (sym c)) i ++ codes "end\n"
 
-pub lists_back : (lists : Lists) → AreWritten lists → ReadsAs (text_of lists.mesh lists.ends) lists.ends
+pub lists_back : (lists : Lists) → AreWritten lists → ReadsAs lists
 lists_back lists w =
     let m = lists.mesh in
     let ends = lists.ends in
@@ -149,6 +154,10 @@ lists_back lists w =
       same =
           same_text m.nodes ends took.took m.histories nodes.histories m.records (took.told ++ last.lines ∷ []) m refl refl refl
           (nodes_same ends took.took 1 nodes.histories took.names ∙ nodes.same) (took.same (last.lines ∷ []) last.same);
+      nodes = refl;
+      histories = nodes.unchanged;
+      records = λ one.
+          (λ i. took.unchanged i ++ last.unchanged (let all = length-drop (length ends) m.records in omega (arith, all, one)) i) ∙ take-append-drop (length ends) m.records;
     }
 
 -- ## What is no report
@@ -196,14 +205,27 @@ no_report_parted bytes read is apart = record {
 
 -- what is read are the lists in the bytes
 pub read_as_is : (bytes : List ℕ) (read : Lists) → lists_in (pieces bytes) ≡ Taken (shown read) [] → bytes ≡ text_of read.mesh read.ends
-    → length read.mesh.plan ≡ length read.mesh.records - 1 → IsReadAs bytes read
-read_as_is bytes read is of sized = record {
+    → length read.mesh.plan ≡ length read.mesh.records - 1 → ((c : ℕ) → c < operator_of read.mesh → IsMarkedIfAny read.mesh c) → IsReadAs bytes read
+read_as_is bytes read is of sized marked = record {
   is_report = of;
   are =
       of_by bytes (Taken (shown read) []) is
       ∙ ap (λ (b : Bool). if b then Some (shown read) else None) ((bytes_eq-Decides bytes (printed (shown read))).1 (of ∙ sym (shown_printed read)));
   sized = sized;
+  marked = marked;
 }
+
+-- those of a report of lists within the limits are these, but for their marks and what actors hold
+pub written_back : (lists : Lists) → AreWritten lists → length lists.mesh.records ≡ length lists.ends + 1
+    → (ends : List End) × (lists_of (text_of lists.mesh lists.ends) ≡ Some (shown (record { mesh = lists.mesh; ends = ends })))
+written_back lists w one =
+    let back = lists_back lists w in
+    let text = text_of lists.mesh lists.ends in (
+      back.view.callers.ends,
+      of_by text (Taken back.view []) back.are
+          ∙ ap (λ (b : Bool). if b then Some back.view else None) ((bytes_eq-Decides text (printed back.view)).1 (sym back.same))
+          ∙ (λ i. Some (record { nodes = back.nodes i; histories = back.histories i; callers = record { ends = back.view.callers.ends; records = back.records one i } })),
+    )
 
 pub spelled_otherwise : (bytes : List ℕ) (read : Lists) → lists_in (pieces bytes) ≡ Taken (shown read) [] → bytes ≢ text_of read.mesh read.ends → SpellsOtherwise bytes
 spelled_otherwise bytes read is apart = record { view = shown read; is_read = is; apart = λ e. apart (e ∙ shown_printed read) }

@@ -12,9 +12,10 @@ use Rattle.mesh.specs.Agree.{history_at}
 use Rattle.mesh.specs.Makers.{IsOperators, HaveBodies, IsMade, IsOfChores}
 use Rattle.mesh.specs.Matches.{AreWithin}
 use Rattle.mesh_judge.specs.Parts.{AreLocal}
+use Rattle.mesh_judge.specs.Fronts.{KeepsUpTo}
 use Rattle.report_judge.specs.declared.fronts.Caller.{Caller}
 use Rattle.report_judge.specs.declared.fronts.Caller.TheVariants as caller
-use Rattle.report_judge.specs.Places.{KeepsUpTo, AreOf}
+use Rattle.report_judge.specs.Places.{AreOf}
 
 -- a front of so many lines keeps it, and one of so many doesn't
 pub record Between {A : Type 0} (P : List A → Type 0) (lines : List A) (kept broken : ℕ) : Type 0 where

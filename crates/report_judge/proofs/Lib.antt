@@ -1,6 +1,7 @@
 pub mod LineLaws
 pub mod FrontLaws
 pub mod PlaceLaws
+pub mod MarkLaws
 pub mod Judgements
 pub mod Verdicts
 pub mod PieceLaws

@@ -1,5 +1,5 @@
 -- What is printed of the parts of a report is read as lists with that text.
-use Rattle.std.proofs.Common.{ℕ, suc, ◌≡◌, ◌≢◌, ◌<◌, ◌≤◌, ◌+◌, ◌^◌, List, [], ◌∷◌, ◌++◌, Bool, true, false, Option, Some, None, length, drop, refl, sym}
+use Rattle.std.proofs.Common.{ℕ, suc, ◌≡◌, ◌≢◌, ◌<◌, ◌≤◌, ◌+◌, ◌^◌, List, [], ◌∷◌, ◌++◌, Bool, true, false, Option, Some, None, length, take, drop, refl, sym}
 use Rattle.std.proofs.Common.{ap, ◌∙◌, arith, append-nil, append_assoc, length-append, decimal, if◌then◌else◌}
 use Rattle.std.specs.Prelude.{codes}
 use Rattle.std.specs.List.{AllByRecursion, flat_map}
@@ -35,7 +35,7 @@ use Rattle.report_judge.specs.Callers.{bare}
 use Rattle.report_judge.specs.Reading.{with_name, names_from}
 use Rattle.report_judge.specs.Complete.{bared}
 use Rattle.report_judge.specs.Written.{IsHistoryLine, IsRecordLine, IsHeld, IsRow, AreNamed}
-use Rattle.report_judge.proofs.PieceLaws.{first_piece, has_piece, HasPiece, line_taken, next_is, stops_at, lines_back}
+use Rattle.report_judge.proofs.PieceLaws.{first_piece, has_piece, HasPiece, line_taken, next_is, stops_at, lines_back, AreThemselves, lines_unchanged}
 use Rattle.report_judge.proofs.CutLaws.{arrow_there, arrow_missed, Lacks-append}
 use Rattle.report_judge.proofs.Tame.{Tame, tame_append, no_end, no_mark, tame_ask, tame_answer, tame_numbers}
 use Rattle.report_judge.proofs.LineBack.{history_back, line_of, record_spelled, record_back, record_whole, record_own}
@@ -198,6 +198,17 @@ module _ (ends : List End) (named : AreNamed ends) where
       takes (history_in (bared ends)) (history_line_text ends) hs after
       (lines_back has_arrow (history_line_in (bared ends)) rule.HistoryLine (history_line_text ends) hs after (lines_read hs w)) s
 
+  -- each line is read as itself
+  themselves : (hs : List HistoryLine) (w : AllByRecursion (IsHistoryLine (length ends)) hs)
+      → AreThemselves has_arrow (history_line_in (bared ends)) rule.HistoryLine (history_line_text ends) hs (lines_read hs w)
+  unfolding lines_read line_read
+  themselves [] w = tt
+  themselves (h ∷ hs) w = (refl, themselves hs w.1)
+
+  history_unchanged : (hs : List HistoryLine) (after : List ℕ) (w : AllByRecursion (IsHistoryLine (length ends)) hs)
+      → (lines_back has_arrow (history_line_in (bared ends)) rule.HistoryLine (history_line_text ends) hs after (lines_read hs w)).things ≡ hs
+  history_unchanged hs after w = lines_unchanged has_arrow (history_line_in (bared ends)) rule.HistoryLine (history_line_text ends) hs after (lines_read hs w) (themselves hs w)
+
   abbrev header : ℕ → List ℕ
   header node = codes "node" ++ numbers_text (node ∷ [])
 
@@ -237,6 +248,7 @@ module _ (ends : List End) (named : AreNamed ends) where
     pub histories : List (List HistoryLine)
     pub are : nodes_in (bared ends) (length hs) node done (pieces (nodes_text ends node hs ++ after)) ≡ Taken (done ++ histories) (pieces after)
     pub same : nodes_text ends node histories ≡ nodes_text ends node hs
+    pub unchanged : histories ≡ hs
 
   nodes_step : (count node : ℕ) (done : List (List HistoryLine)) (ps rest left : List (List ℕ)) (h : List HistoryLine) → header_in node ps ≡ Taken tt rest
       → history_in (bared ends) rest ≡ Taken h left → nodes_in (bared ends) (suc count) node done ps ≡ nodes_in (bared ends) count (node + 1) (done ++ h ∷ []) left
@@ -262,7 +274,8 @@ module _ (ends : List End) (named : AreNamed ends) where
 
   pub nodes_back : (node : ℕ) (done hs : List (List HistoryLine)) (after : List ℕ) → IsNext after → node + length hs < 2 ^ 64
       → AllByRecursion (AllByRecursion (IsHistoryLine (length ends))) hs → TakesNodes node done hs after
-  nodes_back node done [] after n l w = record { histories = []; are = none_left node done after; same = refl }
+  unfolding history_read takes
+  nodes_back node done [] after n l w = record { histories = []; are = none_left node done after; same = refl; unchanged = refl }
   nodes_back node done (h ∷ hs) after n l w =
       let rest = nodes_text ends (node + 1) hs ++ after in
       let here = history_read h rest w.0 (nodes_stop (node + 1) hs after (omega (arith, l)) n) in
@@ -274,6 +287,7 @@ module _ (ends : List End) (named : AreNamed ends) where
             (header_back node (nodes_text ends node (h ∷ hs) ++ after) (history_text ends h ++ rest) (omega (arith, l)) (nodes_join node h hs after)) here.are
             ∙ more.are ∙ ap (λ x. Taken x (pieces after)) (append_assoc done (here.things ∷ []) more.histories);
         same = one_same node h here.things hs more.histories here.same more.same;
+        unchanged = λ i. history_unchanged h rest w.0 i ∷ more.unchanged i;
       }
 
   -- no line of theirs tells a name
@@ -327,6 +341,16 @@ module _ (nodes : ℕ) (few : nodes ≤ most_nodes) where
       → TakesList (record_in nodes) record_line_text xs after
   record_read xs after w s =
       takes (record_in nodes) record_line_text xs after (lines_back is_of_record (record_line_in nodes) rule.RecordLine record_line_text xs after (record_lines xs w)) s
+
+  -- each line is read as itself
+  as_they_are : (xs : List Record) (w : AllByRecursion (IsRecordLine nodes) xs) → AreThemselves is_of_record (record_line_in nodes) rule.RecordLine record_line_text xs (record_lines xs w)
+  unfolding record_lines record_line
+  as_they_are [] w = tt
+  as_they_are (x ∷ xs) w = (refl, as_they_are xs w.1)
+
+  record_unchanged : (xs : List Record) (after : List ℕ) (w : AllByRecursion (IsRecordLine nodes) xs)
+      → (lines_back is_of_record (record_line_in nodes) rule.RecordLine record_line_text xs after (record_lines xs w)).things ≡ xs
+  record_unchanged xs after w = lines_unchanged is_of_record (record_line_in nodes) rule.RecordLine record_line_text xs after (record_lines xs w) (as_they_are xs w)
 
   -- a line that begins with a letter ends a record
   record_stops : (line rest text : List ℕ) → text ≡ line ++ 10 ∷ rest → Lacks 10 line → is_of_record line ≡ false → record_in nodes (pieces text) ≡ Taken [] (pieces text)
@@ -495,6 +519,7 @@ module _ (nodes : ℕ) (few : nodes ≤ most_nodes) where
         actors_in nodes (bared ends) c (pieces (actors_text ends records ++ after))
         ≡ Taken (record { ends = c.ends ++ took; records = c.records ++ told }) (pieces (operator_text (drop (length ends) records) ++ after))
     pub names : names_of took ≡ names_of ends
+    pub unchanged : told ≡ take (length ends) records
     pub same : (rs : List (List Record)) → operator_text rs ≡ operator_text (drop (length ends) records) → actors_text took (told ++ rs) ≡ actors_text ends records
 
   actor_step : (c : Callers) (name : List ℕ) (ps left end : List (List ℕ)) (lines : List Record) (last : Option LastSpace) → record_in nodes ps ≡ Taken lines left → last_in left ≡ Taken last end
@@ -537,7 +562,8 @@ module _ (nodes : ℕ) (few : nodes ≤ most_nodes) where
 
   pub actors_back : (c : Callers) (ends : List End) (records : List (List Record)) → AreNamed ends → length ends < length records → AllByRecursion (λ (e : End). IsHeld e.last) ends
       → AllByRecursion (AllByRecursion (IsRecordLine nodes)) records → TakesActors c ends records (codes "end\n")
-  actors_back c [] records h l w v = record { took = []; told = []; are = none_taken c records (codes "end\n"); names = refl; same = λ rs e. none_same records rs e }
+  unfolding record_read takes
+  actors_back c [] records h l w v = record { took = []; told = []; are = none_taken c records (codes "end\n"); names = refl; unchanged = refl; same = λ rs e. none_same records rs e }
   actors_back c (e ∷ ends) [] h l w v = absurd (omega (arith, l))
   actors_back c (e ∷ ends) (lines ∷ records) h l w v =
       let rest = actors_text ends records ++ codes "end\n" in
@@ -560,6 +586,7 @@ module _ (nodes : ℕ) (few : nodes ≤ most_nodes) where
               records = append_assoc c.records (own.things ∷ []) more.told i;
             }) (pieces (operator_text (drop (length ends) records) ++ codes "end\n")));
         names = ap (λ (ns : List (List ℕ)). e.name ∷ ns) more.names;
+        unchanged = λ i. record_unchanged nodes few lines (last_text e.last ++ rest) v.0 i ∷ more.unchanged i;
         same = λ rs q. more_same e (record { name = e.name; last = last.what }) ends more.took lines own.things records (more.told ++ rs) refl last.same own.same (more.same rs q);
       }
 
@@ -569,6 +596,7 @@ module _ (nodes : ℕ) (few : nodes ≤ most_nodes) where
     pub lines : List Record
     pub are : operator_in nodes c (pieces (operator_text rs ++ codes "end\n")) ≡ Taken (with_record c lines) (pieces (codes "end\n"))
     pub same : operator_text (lines ∷ []) ≡ operator_text rs
+    pub unchanged : length rs ≡ 1 → lines ∷ [] ≡ rs
 
   end_stops : record_in nodes (pieces (codes "end\n")) ≡ Taken [] (pieces (codes "end\n"))
   end_stops = record_stops nodes few (codes "end") [] (codes "end\n") refl ((λ e. cc), ((λ e. cc), ((λ e. cc), tt))) refl
@@ -618,9 +646,19 @@ module _ (nodes : ℕ) (few : nodes ≤ most_nodes) where
   unfolding operator_text
   none_text = refl
 
+  no_more : (rs : List (List Record)) → suc (length rs) ≡ 1 → [] ≡ rs
+  no_more [] e = refl
+  no_more (r ∷ rs) e = absurd (omega (arith, e))
+
   pub operator_back : (c : Callers) (rs : List (List Record)) → AllByRecursion (AllByRecursion (IsRecordLine nodes)) rs → TakesOperator c rs
-  operator_back c [] v = record { lines = []; are = no_text_operator c [] no_rs; same = none_text ∙ sym no_rs }
-  operator_back c ([] ∷ rs) v = record { lines = []; are = no_text_operator c ([] ∷ rs) (nil_text rs); same = none_text ∙ sym (nil_text rs) }
+  unfolding record_read takes
+  operator_back c [] v = record { lines = []; are = no_text_operator c [] no_rs; same = none_text ∙ sym no_rs; unchanged = λ e. absurd (omega (arith, e)) }
+  operator_back c ([] ∷ rs) v = record {
+    lines = [];
+    are = no_text_operator c ([] ∷ rs) (nil_text rs);
+    same = none_text ∙ sym (nil_text rs);
+    unchanged = λ e. ap (λ (others : List (List Record)). [] ∷ others) (no_more rs e);
+  }
   operator_back c ((x ∷ xs) ∷ rs) v =
       let text = operator_text ((x ∷ xs) ∷ rs) ++ codes "end\n" in
       let rest = record_text (x ∷ xs) ++ codes "end\n" in
@@ -632,6 +670,7 @@ module _ (nodes : ℕ) (few : nodes ≤ most_nodes) where
             operator_step c (pieces text) (pieces rest) (pieces (codes "end\n")) own.things (next_is tells_name text (codes "actor " ++ operator) rest spelled operator_whole)
             (name_back operator text rest operator_whole spelled) own.are;
         same = some_lines x xs own.things own.same ∙ first_only (x ∷ xs) rs;
+        unchanged = λ e. λ i. record_unchanged nodes few (x ∷ xs) (codes "end\n") v.0 i ∷ no_more rs e i;
       }
 
   pub end_back : end_in (pieces (codes "end\n")) ≡ Taken tt []

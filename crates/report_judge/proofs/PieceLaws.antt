@@ -152,6 +152,17 @@ module _ {X : Type 0} (own : List ℕ → Bool) (read : List ℕ → Option X) (
         same = ap (λ t. t ++ flat_map text rest.things) l.same ∙ ap (λ t. text x ++ t) rest.same;
       }
 
+  -- each line is read as itself
+  abbrev pub AreThemselves : (text : X → List ℕ) (xs : List X) → AllByRecursion (IsLineOf own read text) xs → Type 0
+  AreThemselves text [] h = Unit {0}
+  AreThemselves text (x ∷ xs) h = (h.0.thing ≡ x) × AreThemselves text xs h.1
+
+  -- then those that are read are the same
+  pub lines_unchanged : (text : X → List ℕ) (xs : List X) (after : List ℕ) (h : AllByRecursion (IsLineOf own read text) xs) → AreThemselves text xs h → (lines_back text xs after h).things ≡ xs
+  unfolding lines_back
+  lines_unchanged text [] after h k = refl
+  lines_unchanged text (x ∷ xs) after h k = λ i. k.0 i ∷ lines_unchanged text xs after h.1 k.1 i
+
 -- ## Where reading stops
 pub broken_here : {A : Type 0} (f : Front A) (text : List ℕ) (rule : Rule) → f ≡ Broken (pieces text) rule → IsBroken f (length text) rule
 broken_here f text rule e = rw e (refl, ap length (sym (joined_pieces text)))

@@ -1,5 +1,5 @@
 -- What a report is judged, and what the judgement says.
-use Rattle.std.specs.Prelude.{ℕ, ◌≡◌, ◌∷◌, ◌++◌, [], Bool, true, false, List, length, codes, decimal}
+use Rattle.std.specs.Prelude.{ℕ, ◌≡◌, ◌↔◌, ◌∷◌, ◌++◌, [], List, Some, None, length, codes, decimal}
 use Rattle.journal_history.specs.declared.mark.Mark.{Mark}
 use Rattle.run_safety.specs.Run.{IsRun}
 use Rattle.run_safety.specs.Safe.{IsSafe}
@@ -10,8 +10,10 @@ use Rattle.mesh_judge.specs.declared.part.Part.{Part}
 use Rattle.mesh_judge.specs.declared.part.Part.TheVariants as part
 use Rattle.mesh_judge.specs.Broken.{BreaksFirst}
 use Rattle.report_judge.specs.declared.answer.Lists.{Lists}
-use Rattle.report_judge.specs.Reads.{IsReadAs, IsLine}
-use Rattle.report_judge.specs.Written.{NoReport}
+use Rattle.report_judge.specs.Reading.{ListsView, shown, lists_of}
+use Rattle.play_report.specs.Text.{text_of}
+use Rattle.report_judge.specs.Reads.{IsReportOf, IsReadAs, IsLine}
+use Rattle.report_judge.specs.Written.{AreWritten, NoReport}
 use Rattle.report_judge.specs.Places.{TellsPlace}
 use Rattle.report_judge.specs.declared.judgement.Finding.{Finding}
 use Rattle.report_judge.specs.declared.judgement.Judgement.{Judgement}
@@ -33,23 +35,18 @@ pub record OfAgreeing (bytes : List ℕ) : Type 0 where
   pub run : IsRun lists.mesh.nodes (epoch_order lists.mesh)
   pub safe : IsSafe lists.mesh.nodes (epoch_order lists.mesh)
 
--- the parts that don't speak of marks
-unfoldable pub is_markless : Part → Bool
-is_markless part.Marks = false
-is_markless _ = true
-
 -- with these marks
 abbrev pub marked_by : Mesh → List (List Mark) → Mesh
 marked_by m plan = record m { plan = plan }
 
--- They are the report of lists that don't agree: this is the first part that doesn't hold. Where it
--- doesn't speak of marks they agree with no others either.
+-- They are the report of lists that don't agree, with whatever marks: this is the first part that
+-- doesn't hold.
 pub record OfDisagreeing (bytes : List ℕ) (broken : Part) : Type 0 where
   pub lists : Lists
   pub is_read : IsReadAs bytes lists
   pub breaks : BreaksFirst broken lists.mesh
   pub apart : Agrees lists.mesh → ⊥
-  pub others : is_markless broken ≡ true → (plan : List (List Mark)) → length plan ≡ length lists.mesh.plan → Agrees (marked_by lists.mesh plan) → ⊥
+  pub others : (plan : List (List Mark)) → Agrees (marked_by lists.mesh plan) → ⊥
 
 abbrev pub Judges : List ℕ → Judgement → Type 0
 Judges bytes judgement.Agrees = OfAgreeing bytes
@@ -69,12 +66,46 @@ Places bytes (judgement.Disagrees found) = OfPlace bytes found
 Places bytes _ = Unit {0}
 
 -- ## One verdict
+-- the lists in the bytes agree, with some marks
+pub record SomeAgree (bytes : List ℕ) : Type 0 where
+  pub lists : Lists
+  pub are : lists_of bytes ≡ Some (shown lists)
+  pub agrees : Agrees lists.mesh
+
+-- there are lists in the bytes, and with no marks do they agree
+pub record NoneAgree (bytes : List ℕ) : Type 0 where
+  pub view : ListsView
+  pub are : lists_of bytes ≡ Some view
+  pub none : (lists : Lists) → shown lists ≡ view → Agrees lists.mesh → ⊥
+
+abbrev pub IsDisagreeing : Judgement → Type 0
+IsDisagreeing (judgement.Disagrees found) = Unit {0}
+IsDisagreeing _ = ⊥
+
+abbrev pub IsBad : Judgement → Type 0
+IsBad (judgement.Bad line rule) = Unit {0}
+IsBad _ = ⊥
+
+-- Each verdict is told just where it is so: that they agree, where the lists in the bytes agree with
+-- some marks; that they don't, where there are lists in the bytes, and with whatever marks they don't
+-- agree; and that the bytes are bad, where there are no lists in them.
+pub record IsJust (bytes : List ℕ) (j : Judgement) : Type 0 where
+  pub agrees : (j ≡ judgement.Agrees) ↔ SomeAgree bytes
+  pub disagrees : IsDisagreeing j ↔ NoneAgree bytes
+  pub bad : IsBad j ↔ (lists_of bytes ≡ None)
+
 -- Bytes of which lists are read are called bad by none; and lists that agree under some marks are
--- told to break no part but that of marks.
+-- told to break no part.
 pub record VerdictsExclude : Type 0 where
   pub agrees_or_bad : (bytes : List ℕ) → OfAgreeing bytes → NoReport bytes → ⊥
   pub disagrees_or_bad : (bytes : List ℕ) (broken : Part) → OfDisagreeing bytes broken → NoReport bytes → ⊥
-  pub agrees_or_disagrees : (bytes : List ℕ) (broken : Part) → is_markless broken ≡ true → OfAgreeing bytes → OfDisagreeing bytes broken → ⊥
+  pub agrees_or_disagrees : (bytes : List ℕ) (broken : Part) → OfAgreeing bytes → OfDisagreeing bytes broken → ⊥
+
+-- Of lists within the limits, with marks for each of their actors: if they agree, their report is
+-- told to agree; so what is told not to agree is the report of no such lists that do.
+pub record AgreementIsTold : Type 0 where
+  pub agrees : (lists : Lists) → AreWritten lists → length lists.mesh.plan ≡ length lists.ends → Agrees lists.mesh → SomeAgree (text_of lists.mesh lists.ends)
+  pub disagrees : (bytes : List ℕ) (lists : Lists) → AreWritten lists → length lists.mesh.plan ≡ length lists.ends → IsReportOf bytes lists → NoneAgree bytes → Agrees lists.mesh → ⊥
 
 -- ## In words
 abbrev pub part_word : Part → List ℕ

@@ -9,6 +9,10 @@ use Rattle.mesh.specs.Makers.{IsOperators, IsOfChores}
 use Rattle.mesh.specs.Matches.{AreWithin}
 use Rattle.mesh_judge.specs.declared.part.Part.{Part}
 use Rattle.mesh_judge.specs.declared.part.Part.TheVariants as part
+use Rattle.mesh_judge.specs.Fronts.{KeepsUpTo}
+use Rattle.mesh_judge.specs.Plans.{AreCalled}
+use Rattle.mesh_judge.specs.declared.matching.Unlike.TheVariants as unlike
+use Rattle.mesh_judge.specs.Matching.{IsUnlike}
 use Rattle.ns_tree.specs.declared.end.LastSpace.{LastSpace}
 use Rattle.ns_tree.specs.declared.end.End.{End}
 use Rattle.play_report.specs.Text.{caller_name}
@@ -21,19 +25,19 @@ use Rattle.report_judge.specs.declared.fronts.Caller.{Caller}
 use Rattle.report_judge.specs.declared.fronts.Caller.TheVariants as caller
 
 -- ## Where a part is broken
--- so many of the first lines keep it, and with the next one they don't
-pub record KeepsUpTo {A : Type 0} (P : List A → Type 0) (lines : List A) (kept : ℕ) : Type 0 where
-  pub within : kept < length lines
-  pub front : P (take kept lines)
-  pub broken : P (take (kept + 1) lines) → ⊥
-
 -- they are an operator's, or calls of some chores to so many nodes
 abbrev pub AreOf : Caller → ℕ → List Record → Type 0
 AreOf caller.Operator nodes lines = IsOperators lines
 AreOf caller.Actor nodes lines = AreWithin nodes lines × IsOfChores nodes lines
 
--- In this list and with this line the part is broken first. Nothing is said of the other parts: of
--- `Calls` and `Marks` no one list breaks them, and no place is told of those before.
+-- the first line of the first node
+abbrev pub IsFirstLine : ListOf → ℕ → Type 0
+IsFirstLine of line = (of ≡ list.Node 0) × (line ≡ 0)
+
+-- In this list and with this line the part is broken first. Of `Calls` it is where the first node
+-- of which both don't list the same and a caller first list otherwise, and of `Marks` the first late
+-- copy of no call before it. Of `Sizes`, `Nodes` and `Callers` the first line of the first node is
+-- told.
 abbrev pub IsBrokenAt : Part → Mesh → ListOf → ℕ → Type 0
 IsBrokenAt part.Operator m (list.Node i) line = ⊥
 IsBrokenAt part.Operator m (list.Caller c) line = (c ≡ operator_of m) × KeepsUpTo (AreOf caller.Operator m.nodes) (record_of m c) line
@@ -41,11 +45,13 @@ IsBrokenAt part.Histories m (list.Node i) line = ((j : ℕ) → j < i → IsLoca
 IsBrokenAt part.Histories m (list.Caller c) line = ⊥
 IsBrokenAt part.Rounds m (list.Node i) line = ⊥
 IsBrokenAt part.Rounds m (list.Caller c) line = ((d : ℕ) → d < c → AreOf caller.Actor m.nodes (record_of m d)) × KeepsUpTo (AreOf caller.Actor m.nodes) (record_of m c) line
-IsBrokenAt part.Sizes m of line = Unit {0}
-IsBrokenAt part.Nodes m of line = Unit {0}
-IsBrokenAt part.Callers m of line = Unit {0}
-IsBrokenAt part.Calls m of line = Unit {0}
-IsBrokenAt part.Marks m of line = Unit {0}
+IsBrokenAt part.Marks m (list.Node i) line = ⊥
+IsBrokenAt part.Marks m (list.Caller c) line = (c < operator_of m) × ((d : ℕ) → d < c → AreCalled [] (record_of m d)) × KeepsUpTo (AreCalled []) (record_of m c) line
+IsBrokenAt part.Sizes m of line = IsFirstLine of line
+IsBrokenAt part.Nodes m of line = IsFirstLine of line
+IsBrokenAt part.Callers m of line = IsFirstLine of line
+IsBrokenAt part.Calls m (list.Node i) line = IsUnlike m (unlike.AtNode i line)
+IsBrokenAt part.Calls m (list.Caller c) line = IsUnlike m (unlike.AtCaller c line)
 
 -- ## How it is told
 abbrev pub saturated : ℕ → ℕ

@@ -1,36 +1,25 @@
 //! A late copy of no call before it.
+ghost use Rattle.std.specs.Prelude.{◌<◌, ℕ, [], IfOk, MatchOption};
+ghost use Rattle.mesh.specs.Agree.{operator_of, record_of};
+ghost use Rattle.mesh_judge.specs.declared.part.Part.TheVariants as part;
+ghost use Rattle.mesh_judge.specs.Plans.{AreCalled};
+ghost use Rattle.report_judge.specs.Places.{IsBrokenAt};
+
+use crate::fronts::lines_of;
 use crate::place::{ListOf, Place};
 use journal_core::OutOfMemory;
-use journal_history::{LentRecord, ListedRecord, Told};
 use mesh::Mesh;
-use mesh_judge::key_of;
+use mesh_judge::uncalled_line;
 use std::alloc::Global;
-use std::collections::BTreeMap;
 
-/// The first line that is a late copy of no call before it.
-fn first_uncalled(alloc: Global, lines: &[ListedRecord]) -> Result<Option<usize>, OutOfMemory> {
-    let mut asked = BTreeMap::new(alloc);
-    for (index, line) in lines.iter().enumerate() {
-        match line.lend(&Told::OK) {
-            LentRecord::Call { node, request, .. } => {
-                asked.insert(key_of(alloc, node, request.get())?, index)?;
-            }
-            LentRecord::Late { node, request } => {
-                let key = key_of(alloc, node, request.get())?;
-                if asked.get(key.as_slice()).is_none() {
-                    return Ok(Some(index));
-                }
-            }
-            LentRecord::Operator { .. } | LentRecord::Outcome { .. } => {}
-        }
-    }
-    Ok(None)
-}
-
-/// The first late copy of no call before it.
-pub(crate) fn uncalled_copy(alloc: Global, mesh: &Mesh) -> Result<Option<Place>, OutOfMemory> {
-    for (caller, record) in mesh.records.as_slice().iter().enumerate() {
-        if let Some(line) = first_uncalled(alloc, record.as_slice())? {
+/// The first late copy of no call before it, or none where each stands behind its call.
+pub(crate) fn uncalled_copy(alloc: Global, mesh: &Mesh) -> Result<Option<Place>, OutOfMemory>
+    ensures { IfOk result (λ found. MatchOption found ((c : ℕ) → c < operator_of mesh.now → AreCalled [] (record_of mesh.now c)) (λ p. IsBrokenAt part.Marks mesh.now p.list p.line)) }
+{
+    let records = mesh.records.as_slice();
+    for caller in 0..mesh.plan.as_slice().len() {
+        let uncalled = uncalled_line(alloc, lines_of(records, caller))?;
+        if let Some(line) = uncalled {
             let list = ListOf::Caller(caller);
             return Ok(Some(Place { list, line }));
         }

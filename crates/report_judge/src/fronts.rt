@@ -3,7 +3,8 @@ ghost use Rattle.std.specs.Prelude.{◌≡◌, ◌<◌, ◌+◌, [], Decides, If
 ghost use Rattle.journal_history.specs.Cell.{fresh_cell, IsLocalRun};
 ghost use Rattle.mesh_judge.specs.Broken.{Keeps};
 ghost use Rattle.mesh_judge.specs.declared.part.Part.TheVariants as part;
-ghost use Rattle.report_judge.specs.Places.{KeepsUpTo, AreOf, IsBrokenAt};
+ghost use Rattle.mesh_judge.specs.Fronts.{KeepsUpTo};
+ghost use Rattle.report_judge.specs.Places.{AreOf, IsBrokenAt};
 
 use crate::place::{ListOf, Place};
 use journal_core::OutOfMemory;
@@ -110,7 +111,7 @@ pub(crate) fn foreign_line(alloc: Global, mesh: &Mesh) -> Result<Option<Place>, 
 }
 
 /// The lines of a caller; none of one that isn't there.
-fn lines_of(records: &[RecordList], caller: usize) -> &[ListedRecord]
+pub(crate) fn lines_of(records: &[RecordList], caller: usize) -> &[ListedRecord]
     ensures { result.now ≡ slice_index_or records.now caller [] }
 {
     match records.get(caller) {

@@ -33,8 +33,8 @@ mod worked;
 
 pub use answer::{Lists, Reading};
 pub use judgement::{Finding, Judgement};
-pub use judging::judge;
-pub use laws::verdicts_exclude_each_other;
+pub use judging::{judge, judge_lists};
+pub use laws::{agreement_is_told, verdicts_exclude_each_other};
 pub use whole::read_report;
 pub use words::{agrees_text, disagrees_text};
 pub use worked::lists_are_in_the_bytes;

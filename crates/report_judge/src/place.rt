@@ -1,11 +1,13 @@
 //! Where lists don't agree.
-ghost use Rattle.std.specs.Prelude.{◌≡◌, IfOk, MatchOption, slice_get};
-ghost use Rattle.mesh_judge.specs.Broken.{Breaks};
+ghost use Rattle.std.specs.Prelude.{◌≡◌, ◌<◌, ℕ, IfOk, MatchOption, slice_get};
+ghost use Rattle.mesh.specs.Agree.{operator_of};
+ghost use Rattle.mesh_judge.specs.Broken.{BreaksFirst};
+ghost use Rattle.report_judge.specs.Reads.{IsMarkedIfAny};
 ghost use Rattle.report_judge.specs.declared.place.ListOf.TheVariants as listed;
 ghost use Rattle.report_judge.specs.Places.{IsBrokenAt, TellsPlace, list_words, saturated, node_lines, space_lines, caller_lines, lines_above};
 
 use crate::answer::Lists;
-use crate::calls::unlike_line;
+use crate::calls::unlike_place;
 use crate::copies::uncalled_copy;
 use crate::fronts::{foreign_line, strange_line, unmade_line};
 use crate::judgement::Finding;
@@ -36,13 +38,14 @@ pub(crate) struct Place {
 
 /// The first place at which the part is broken, which is one.
 fn place_of(alloc: Global, mesh: &Mesh, broken: Part) -> Result<Option<Place>, OutOfMemory>
-    requires { Breaks broken mesh.now }
+    requires breaks { BreaksFirst broken mesh.now }
+    requires marked { (c : ℕ) → c < operator_of mesh.now → IsMarkedIfAny mesh.now c }
     ensures { IfOk result (λ place. MatchOption place (IsBrokenAt broken mesh.now (listed.Node 0) 0) (λ p. IsBrokenAt broken mesh.now p.list p.line)) }
 {
     match broken {
         Part::Operator => strange_line(alloc, mesh),
         Part::Histories => foreign_line(alloc, mesh),
-        Part::Calls => unlike_line(alloc, mesh),
+        Part::Calls => unlike_place(alloc, mesh),
         Part::Marks => uncalled_copy(alloc, mesh),
         Part::Rounds => unmade_line(alloc, mesh),
         Part::Sizes | Part::Nodes | Part::Callers => Ok(None),
@@ -130,7 +133,8 @@ fn words_of(alloc: Global, lists: &Lists, list: ListOf) -> Result<Name, OutOfMem
 
 /// Where the lists break the part, which they do.
 pub(crate) fn finding_of(alloc: Global, lists: &Lists, broken: Part) -> Result<Finding, OutOfMemory>
-    requires { Breaks broken lists.now.mesh }
+    requires breaks { BreaksFirst broken lists.now.mesh }
+    requires marked { (c : ℕ) → c < operator_of lists.now.mesh → IsMarkedIfAny lists.now.mesh c }
     ensures of { IfOk result (λ found. found.part ≡ broken) }
     ensures place { IfOk result (λ found. TellsPlace lists.now found) }
 {

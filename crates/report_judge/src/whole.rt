@@ -1,6 +1,7 @@
 //! A report is read as a whole.
-ghost use Rattle.std.specs.Prelude.{◌≡◌, ◌≤◌, ◌+◌, ◌-◌, [], IfOk, IfErr, MatchOption, count_by, length, take};
-ghost use Rattle.report_judge.specs.Reads.{ends_line, IsLine, IsReadAs, Tells};
+ghost use Rattle.std.specs.Prelude.{◌≡◌, ◌<◌, ◌≤◌, ◌+◌, ◌-◌, ℕ, [], IfOk, IfErr, MatchOption, count_by, length, take};
+ghost use Rattle.mesh.specs.Agree.{operator_of};
+ghost use Rattle.report_judge.specs.Reads.{ends_line, IsLine, IsMarkedIfAny, IsReadAs, Tells};
 ghost use Rattle.report_judge.specs.Pieces.{pieces, Taken, IsBroken, Stops};
 ghost use Rattle.report_judge.specs.Reading.{no_callers, first_in, lists_in, shown, read_as};
 ghost use Rattle.report_judge.specs.Complete.{IsUnread, IsComplete};
@@ -61,6 +62,7 @@ fn read_parts(
 fn read_lists(alloc: Global, bytes: &[u8]) -> Result<Lists, Unread>
     ensures taken { IfOk result (λ lists. lists_in (pieces bytes.now) ≡ Taken (shown lists) []) }
     ensures sized { IfOk result (λ lists. length lists.mesh.plan ≡ length lists.mesh.records - 1) }
+    ensures marked { IfOk result (λ lists. (c : ℕ) → c < operator_of lists.mesh → IsMarkedIfAny lists.mesh c) }
     ensures stopped { IfErr result (λ e. Stops (lists_in (pieces bytes.now)) e) }
 {
     let mut callers = Callers {

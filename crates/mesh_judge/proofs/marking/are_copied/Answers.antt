@@ -1,7 +1,6 @@
-use Rattle.std.proofs.Common.{ℕ, List, length, take, sym, subst, Contains, inl, inr, ◌⊎◌, ◌≡◌}
+use Rattle.std.proofs.Common.{take, sym, subst, Contains, inl, inr, ◌⊎◌, ◌≡◌}
 use Rattle.std.proofs.lemmas.List.{take_all}
 use Rattle.std.proofs.lemmas.List.Elements.{Contains-push_cases}
-use Rattle.journal_history.specs.declared.record.Record.{Record}
 use Rattle.mesh.specs.Marks.{AreCopied}
 use Rattle.mesh_judge.specs.Marking.{LineIsCopied}
 use Rattle.mesh_judge.proofs.Deciding.{no, yes, fails, holds}

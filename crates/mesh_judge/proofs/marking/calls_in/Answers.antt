@@ -1,4 +1,4 @@
-use Rattle.std.proofs.Common.{◌+◌, ◌≤◌, [], length, take, get_or, sym, subst, subst₂, arith}
+use Rattle.std.proofs.Common.{◌+◌, ◌≤◌, length, take, get_or, sym, subst, subst₂, arith}
 use Rattle.std.proofs.lemmas.List.{take_all}
 use Rattle.mesh.specs.Matches.{IsWithin}
 use Rattle.mesh_judge.proofs.ReachLaws.{taken_length}
