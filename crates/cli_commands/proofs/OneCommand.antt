@@ -11,7 +11,7 @@ use Rattle.cli_commands.specs.declared.tool.ImageTool.{ImageTool}
 use Rattle.cli_commands.specs.declared.tool.ImageTool.TheVariants as image
 use Rattle.cli_commands.specs.Tools.{Tool}
 use Rattle.cli_commands.specs.Tools as tool
-use Rattle.cli_commands.specs.Commands.{Asked, play, run, piped, mirror, boot, node, fsck, judge, gen, list, words_of, IsAllowed, AskFor}
+use Rattle.cli_commands.specs.Commands.{Asked, play, run, piped, mirror, boot, node, fsck, judge, states, gen, list, words_of, IsAllowed, AskFor}
 
 -- the command of these words, which are one's
 unfoldable alone_at : List ℕ → Asked
@@ -19,7 +19,7 @@ alone_at word =
     if bytes_eq word (codes "play") then play
     else (if bytes_eq word (codes "run") then run else (if bytes_eq word (codes "piped") then piped else (if bytes_eq word (codes "mirror") then mirror
     else (if bytes_eq word (codes "boot") then boot else (if bytes_eq word (codes "node") then node
-    else (if bytes_eq word (codes "fsck") then fsck else judge))))))
+    else (if bytes_eq word (codes "fsck") then fsck else (if bytes_eq word (codes "judge") then judge else states)))))))
 
 unfoldable segment_at : List ℕ → SegmentTool
 segment_at word = if bytes_eq word (codes "list") then segment.List else (if bytes_eq word (codes "stats") then segment.Stats else segment.Json)
@@ -49,6 +49,7 @@ asked_back boot h = refl
 asked_back node h = refl
 asked_back fsck h = refl
 asked_back judge h = refl
+asked_back states h = refl
 asked_back (gen number edits nodes) h =
     let a : number ≤ 4611686018427387904 = h.number_fits in
     let b : edits ≤ 10000 = h.few_edits in

@@ -16,7 +16,7 @@ use Rattle.cli_commands.specs.declared.tool.SegmentTool.TheVariants as segment
 use Rattle.cli_commands.specs.declared.tool.ImageTool.{ImageTool}
 use Rattle.cli_commands.specs.declared.tool.ImageTool.TheVariants as image
 use Rattle.cli_commands.specs.Tools as tool
-use Rattle.cli_commands.specs.Commands.{Asked, play, run, piped, mirror, boot, node, fsck, judge, gen, list, segment_word}
+use Rattle.cli_commands.specs.Commands.{Asked, play, run, piped, mirror, boot, node, fsck, judge, states, gen, list, segment_word}
 use Rattle.cli_commands.specs.Commands.{image_word, words_of, AreOfSegment, is_from_root, AskFor, IsCommand}
 use Rattle.cli_commands.specs.Usage.{is_alone, is_oev, is_oiv, after_one, after_tool, after_program, after_epoch, behind_start, behind_name, after_back}
 use Rattle.cli_commands.specs.Usage.{after_oev, after_path, behind_image, after_ls, after_oiv, asks_piped}
@@ -55,7 +55,8 @@ alone_word word t =
     (first_or word (codes "boot") _ (boot, record { words_are = refl; allowed = tt })
     (first_or word (codes "node") _ (node, record { words_are = refl; allowed = tt })
     (first_or word (codes "fsck") _ (fsck, record { words_are = refl; allowed = tt })
-    (this_word word (codes "judge") (judge, record { words_are = refl; allowed = tt }))))))))
+    (first_or word (codes "judge") _ (judge, record { words_are = refl; allowed = tt })
+    (this_word word (codes "states") (states, record { words_are = refl; allowed = tt })))))))))
     t
 
 oev_word : (word : List ℕ) → is_oev word ≡ true → (of : SegmentTool) × (word ≡ segment_word of)
@@ -111,6 +112,7 @@ no_words boot e = cc e
 no_words node e = cc e
 no_words fsck e = cc e
 no_words judge e = cc e
+no_words states e = cc e
 no_words (gen number edits nodes) e = cc e
 no_words (list of name) e = cc e
 
@@ -124,6 +126,7 @@ first_word word words boot e = inl (ap is_alone (heads word (codes "boot") words
 first_word word words node e = inl (ap is_alone (heads word (codes "node") words [] e))
 first_word word words fsck e = inl (ap is_alone (heads word (codes "fsck") words [] e))
 first_word word words judge e = inl (ap is_alone (heads word (codes "judge") words [] e))
+first_word word words states e = inl (ap is_alone (heads word (codes "states") words [] e))
 first_word word words (gen number edits nodes) e = inr (inr (inr (heads word (codes "gen") words (decimal number ∷ decimal edits ∷ decimal nodes ∷ []) e)))
 first_word word words (list (tool.Oev of) name) e = inr (inl (heads word (codes "oev") words (segment_word of ∷ name ∷ []) e))
 first_word word words (list (tool.Oiv of) name) e = inr (inr (inl (heads word (codes "oiv") words (image_word of ∷ name ∷ []) e)))
@@ -143,6 +146,7 @@ after_alone word words boot y e = tails word (codes "boot") words [] e
 after_alone word words node y e = tails word (codes "node") words [] e
 after_alone word words fsck y e = tails word (codes "fsck") words [] e
 after_alone word words judge y e = tails word (codes "judge") words [] e
+after_alone word words states y e = tails word (codes "states") words [] e
 after_alone word words (gen number edits nodes) y e = absurd (apart word (codes "gen") refl y (heads word (codes "gen") words (decimal number ∷ decimal edits ∷ decimal nodes ∷ []) e))
 after_alone word words (list (tool.Oev of) name) y e = absurd (apart word (codes "oev") refl y (heads word (codes "oev") words (segment_word of ∷ name ∷ []) e))
 after_alone word words (list (tool.Oiv of) name) y e = absurd (apart word (codes "oiv") refl y (heads word (codes "oiv") words (image_word of ∷ name ∷ []) e))
@@ -160,6 +164,7 @@ program_alone word boot e = ap is_alone (heads word (codes "boot") [] [] e)
 program_alone word node e = ap is_alone (heads word (codes "node") [] [] e)
 program_alone word fsck e = ap is_alone (heads word (codes "fsck") [] [] e)
 program_alone word judge e = ap is_alone (heads word (codes "judge") [] [] e)
+program_alone word states e = ap is_alone (heads word (codes "states") [] [] e)
 program_alone word (gen number edits nodes) e = absurd (cc (tails word (codes "gen") [] (decimal number ∷ decimal edits ∷ decimal nodes ∷ []) e))
 program_alone word (list (tool.Oev of) name) e = absurd (cc (tails word (codes "oev") [] (segment_word of ∷ name ∷ []) e))
 program_alone word (list (tool.Oiv of) name) e = absurd (cc (tails word (codes "oiv") [] (image_word of ∷ name ∷ []) e))
@@ -180,6 +185,7 @@ after_oev_is word words b (boot, e) = absurd (bytes_other (codes "oev") (codes "
 after_oev_is word words b (node, e) = absurd (bytes_other (codes "oev") (codes "node") refl (heads (codes "oev") (codes "node") (word ∷ words) [] e.words_are))
 after_oev_is word words b (fsck, e) = absurd (bytes_other (codes "oev") (codes "fsck") refl (heads (codes "oev") (codes "fsck") (word ∷ words) [] e.words_are))
 after_oev_is word words b (judge, e) = absurd (bytes_other (codes "oev") (codes "judge") refl (heads (codes "oev") (codes "judge") (word ∷ words) [] e.words_are))
+after_oev_is word words b (states, e) = absurd (bytes_other (codes "oev") (codes "states") refl (heads (codes "oev") (codes "states") (word ∷ words) [] e.words_are))
 after_oev_is word words b (gen number edits nodes, e) = absurd (bytes_other (codes "oev") (codes "gen") refl
     (heads (codes "oev") (codes "gen") (word ∷ words) (decimal number ∷ decimal edits ∷ decimal nodes ∷ []) e.words_are))
 after_oev_is word words b (list (tool.Oev of) name, e) = (of, name, tails (codes "oev") (codes "oev") (word ∷ words) (segment_word of ∷ name ∷ []) e.words_are)
@@ -202,6 +208,7 @@ after_oiv_is word words b (boot, e) = absurd (bytes_other (codes "oiv") (codes "
 after_oiv_is word words b (node, e) = absurd (bytes_other (codes "oiv") (codes "node") refl (heads (codes "oiv") (codes "node") (word ∷ words) [] e.words_are))
 after_oiv_is word words b (fsck, e) = absurd (bytes_other (codes "oiv") (codes "fsck") refl (heads (codes "oiv") (codes "fsck") (word ∷ words) [] e.words_are))
 after_oiv_is word words b (judge, e) = absurd (bytes_other (codes "oiv") (codes "judge") refl (heads (codes "oiv") (codes "judge") (word ∷ words) [] e.words_are))
+after_oiv_is word words b (states, e) = absurd (bytes_other (codes "oiv") (codes "states") refl (heads (codes "oiv") (codes "states") (word ∷ words) [] e.words_are))
 after_oiv_is word words b (gen number edits nodes, e) = absurd (bytes_other (codes "oiv") (codes "gen") refl
     (heads (codes "oiv") (codes "gen") (word ∷ words) (decimal number ∷ decimal edits ∷ decimal nodes ∷ []) e.words_are))
 after_oiv_is word words b (list (tool.Oev of) name, e) =
@@ -325,6 +332,7 @@ after_back_is words (boot, e) = absurd (bytes_other (codes "oev") (codes "boot")
 after_back_is words (node, e) = absurd (bytes_other (codes "oev") (codes "node") refl (heads (codes "oev") (codes "node") (codes "back" ∷ words) [] e.words_are))
 after_back_is words (fsck, e) = absurd (bytes_other (codes "oev") (codes "fsck") refl (heads (codes "oev") (codes "fsck") (codes "back" ∷ words) [] e.words_are))
 after_back_is words (judge, e) = absurd (bytes_other (codes "oev") (codes "judge") refl (heads (codes "oev") (codes "judge") (codes "back" ∷ words) [] e.words_are))
+after_back_is words (states, e) = absurd (bytes_other (codes "oev") (codes "states") refl (heads (codes "oev") (codes "states") (codes "back" ∷ words) [] e.words_are))
 after_back_is words (gen number edits nodes, e) = absurd (bytes_other (codes "oev") (codes "gen") refl
     (heads (codes "oev") (codes "gen") (codes "back" ∷ words) (decimal number ∷ decimal edits ∷ decimal nodes ∷ []) e.words_are))
 after_back_is words (list (tool.Oev of) name, e) =
@@ -470,6 +478,7 @@ after_ls_is words (boot, e) = absurd (bytes_other (codes "oiv") (codes "boot") r
 after_ls_is words (node, e) = absurd (bytes_other (codes "oiv") (codes "node") refl (heads (codes "oiv") (codes "node") (codes "ls" ∷ words) [] e.words_are))
 after_ls_is words (fsck, e) = absurd (bytes_other (codes "oiv") (codes "fsck") refl (heads (codes "oiv") (codes "fsck") (codes "ls" ∷ words) [] e.words_are))
 after_ls_is words (judge, e) = absurd (bytes_other (codes "oiv") (codes "judge") refl (heads (codes "oiv") (codes "judge") (codes "ls" ∷ words) [] e.words_are))
+after_ls_is words (states, e) = absurd (bytes_other (codes "oiv") (codes "states") refl (heads (codes "oiv") (codes "states") (codes "ls" ∷ words) [] e.words_are))
 after_ls_is words (gen number edits nodes, e) = absurd (bytes_other (codes "oiv") (codes "gen") refl
     (heads (codes "oiv") (codes "gen") (codes "ls" ∷ words) (decimal number ∷ decimal edits ∷ decimal nodes ∷ []) e.words_are))
 after_ls_is words (list (tool.Oev of) name, e) =
@@ -571,6 +580,7 @@ after_gen_is words (boot, e) = absurd (bytes_other (codes "gen") (codes "boot") 
 after_gen_is words (node, e) = absurd (bytes_other (codes "gen") (codes "node") refl (heads (codes "gen") (codes "node") words [] e.words_are))
 after_gen_is words (fsck, e) = absurd (bytes_other (codes "gen") (codes "fsck") refl (heads (codes "gen") (codes "fsck") words [] e.words_are))
 after_gen_is words (judge, e) = absurd (bytes_other (codes "gen") (codes "judge") refl (heads (codes "gen") (codes "judge") words [] e.words_are))
+after_gen_is words (states, e) = absurd (bytes_other (codes "gen") (codes "states") refl (heads (codes "gen") (codes "states") words [] e.words_are))
 after_gen_is words (gen number edits nodes, e) = record {
   number = number;
   edits = edits;

@@ -13,9 +13,9 @@ use Rattle.cli_commands.specs.declared.command.Command.TheVariants as command
 
 -- What can be asked for: a script is played, in order or by threads, whose calls may go through
 -- pipes, or in order and its nodes are mirrored or a fresh standby boots over them, a node is
--- served, the disk's files are checked, a report is judged, the script that a number gives is
--- played, with so many edits over so many nodes, or what this tool makes of the file of this name
--- is written.
+-- served, the disk's files are checked, a report is judged or its states are told, the script that a
+-- number gives is played, with so many edits over so many nodes, or what this tool makes of the file
+-- of this name is written.
 pub data Asked : Type 0 where
   play : Asked
   run : Asked
@@ -25,6 +25,7 @@ pub data Asked : Type 0 where
   node : Asked
   fsck : Asked
   judge : Asked
+  states : Asked
   gen : (number edits nodes : ℕ) → Asked
   list : Tool → List ℕ → Asked
 
@@ -38,6 +39,7 @@ asked_in command.Boot = boot
 asked_in command.Node = node
 asked_in command.Fsck = fsck
 asked_in command.Judge = judge
+asked_in command.States = states
 asked_in (command.Gen number edits nodes) = gen number edits nodes
 asked_in (command.Listing of name) = list (shown of) name.now
 
@@ -81,6 +83,7 @@ words_of boot = codes "boot" ∷ []
 words_of node = codes "node" ∷ []
 words_of fsck = codes "fsck" ∷ []
 words_of judge = codes "judge" ∷ []
+words_of states = codes "states" ∷ []
 words_of (gen number edits nodes) = codes "gen" ∷ decimal number ∷ decimal edits ∷ decimal nodes ∷ []
 words_of (list of name) = program_of of ∷ word_of of ∷ name ∷ later_words of
 

@@ -15,7 +15,7 @@ bytes_of words = map string_bytes words
 abbrev pub is_alone : List ℕ → Bool
 is_alone word =
     bytes_eq word (codes "play") || (bytes_eq word (codes "run") || (bytes_eq word (codes "piped") || (bytes_eq word (codes "mirror") || (bytes_eq word (codes "boot")
-    || (bytes_eq word (codes "node") || (bytes_eq word (codes "fsck") || bytes_eq word (codes "judge")))))))
+    || (bytes_eq word (codes "node") || (bytes_eq word (codes "fsck") || (bytes_eq word (codes "judge") || bytes_eq word (codes "states"))))))))
 
 -- the word of a listing of a segment's file
 abbrev pub is_oev : List ℕ → Bool

@@ -33,6 +33,8 @@ pub enum Command<'a> {
     Fsck,
     /// To judge the report that the source gives.
     Judge,
+    /// To tell the states of the report that the source gives.
+    States,
     /// To play the script that a number gives, with so many edits over so many nodes.
     Gen { number: u64, edits: u64, nodes: u64 },
     /// To write what a tool makes of a file of the disk.
@@ -59,6 +61,8 @@ fn command_of<'a>(word: &str) -> Option<Command<'a>>
         Some(Command::Fsck)
     } else if word == "judge" {
         Some(Command::Judge)
+    } else if word == "states" {
+        Some(Command::States)
     } else {
         None
     }

@@ -25,7 +25,7 @@ use Rattle.cli_commands.specs.Tools.{Tool}
 use Rattle.cli_commands.specs.Uses.{SourceUse, SinkUse, DiskUse}
 use Rattle.cli_commands.specs.Faults.{status_of}
 use Rattle.cli_commands.specs.Told.{IsToldAs, TellsFault, TellsText, Told, wrote_text, told_fault}
-use Rattle.cli_commands.specs.Commands.{Asked, asked_in, play, run, piped, mirror, boot, node, fsck, judge, gen, list, AskFor}
+use Rattle.cli_commands.specs.Commands.{Asked, asked_in, play, run, piped, mirror, boot, node, fsck, judge, states, gen, list, AskFor}
 use Rattle.qj_cli.specs.Sound.{AreSound, ComeOf}
 use Rattle.qj_cli.specs.Pipes.{pipe_fault_of, first_of, pipe_line_of, IsPipedFault, Pipes}
 use Rattle.qj_cli.specs.Plays.{longest_script, AreTold, IsReadWhole, IsTooLong, IsReadingFault, IsPlayFault, Plays}
@@ -38,6 +38,7 @@ use Rattle.qj_cli.specs.Boots.{IsBooted, HasLongBoot, IsBootFault, Boots}
 use Rattle.qj_cli.specs.Mirrors.{Mirrors}
 use Rattle.play_report.specs.Limit.{longest_report}
 use Rattle.qj_cli.specs.Judging.{IsLongReport, agreeing, disagreeing, IsJudgeFault, JudgesReport}
+use Rattle.qj_cli.specs.States.{states_of, none_of, TellsReport}
 use Rattle.qj_cli.specs.Does.{Does, Refuses, NeedsThreads, ByThreads, ReadsNone}
 use Rattle.qj_cli.specs.Complete.{HasText, HasScript, HasPiped, HasNames, HasShort, HasRequests, HasNode, HasFile, NothingFails, IsComplete}
 use Rattle.cli_commands.proofs.OneListing.{in_grammar}
@@ -411,6 +412,12 @@ module _ (source : SourceUse) (right : HasShort source) (reads : Rose source.fau
   judging_done sink s writes (wrote_text good text gives (inr w)) = absurd (writes w.1)
   judging_done sink s writes (told_fault of f told) = judge_told told.told of s told.told_as told.status_is f
 
+  telling_done : (sink : SinkUse) (s : Status) → (Rose sink.faults_before sink.faults_now → ⊥) → TellsReport source sink s → Judged s
+  telling_done sink s writes (wrote_text good text (states_of bytes read is of agrees) (inl w)) = inl (inl (w.0 ∙ is))
+  telling_done sink s writes (wrote_text good text (none_of bytes found read is text_is of place) (inl w)) = inl (inr (inl (w.0 ∙ is)))
+  telling_done sink s writes (wrote_text good text gives (inr w)) = absurd (writes w.1)
+  telling_done sink s writes (told_fault of f told) = judge_told told.told of s told.told_as told.status_is f
+
 -- ## Each command
 pub completes : {D : Type 0} (asked : Asked) (source : SourceUse) (sink : SinkUse) (disk : DiskUse D) (s : Status) → ScriptBreaksNoRule
     → Does asked source sink disk s → IsComplete asked source sink disk s
@@ -423,6 +430,7 @@ completes node source sink disk s no_rule does =
     λ right nothing. served_done source sink disk s right.0 right.1 nothing (no_disk_fault source sink disk s right.0 right.1 nothing does) does.served
 completes fsck source sink disk s no_rule does = λ right nothing. checked disk nothing.calls sink s nothing.writes does.told
 completes judge source sink disk s no_rule does = λ right nothing. judging_done source right nothing.reads sink s nothing.writes does.0
+completes states source sink disk s no_rule does = λ right nothing. telling_done source right nothing.reads sink s nothing.writes does.0
 completes (gen number edits nodes) source sink disk s no_rule does = λ right nothing. generates_done number edits nodes sink s nothing.writes does.0
 completes (list of name) source sink disk s no_rule does = λ right nothing. listed of name disk right nothing.calls sink s nothing.writes does.told
 
@@ -450,6 +458,7 @@ by_threads boot n = absurd n
 by_threads node n = absurd n
 by_threads fsck n = absurd n
 by_threads judge n = absurd n
+by_threads states n = absurd n
 by_threads (gen number edits nodes) n = absurd n
 by_threads (list of name) n = absurd n
 
@@ -469,6 +478,7 @@ does_by_threads boot source sink disk s is e = absurd is
 does_by_threads node source sink disk s is e = absurd is
 does_by_threads fsck source sink disk s is e = absurd is
 does_by_threads judge source sink disk s is e = absurd is
+does_by_threads states source sink disk s is e = absurd is
 does_by_threads (gen number edits nodes) source sink disk s is e = absurd is
 does_by_threads (list of name) source sink disk s is e = absurd is
 
@@ -482,6 +492,7 @@ reads_some boot needs none = absurd needs
 reads_some node needs none = absurd needs
 reads_some fsck needs none = absurd needs
 reads_some judge needs none = absurd needs
+reads_some states needs none = absurd needs
 reads_some (gen number edits nodes) needs none = absurd needs
 reads_some (list of name) needs none = absurd needs
 

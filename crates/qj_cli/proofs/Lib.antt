@@ -8,4 +8,5 @@ pub mod RequestLaws
 pub mod CompleteLaws
 pub mod MirrorLaws
 pub mod JudgeLaws
+pub mod StateLaws
 pub mod WriteLaws

@@ -19,7 +19,7 @@ use Rattle.cli_commands.specs.Tools.{Tool}
 use Rattle.cli_commands.specs.declared.status.Status.{Status}
 use Rattle.cli_commands.specs.declared.status.Status.TheVariants as status
 use Rattle.cli_commands.specs.Uses.{SourceUse, SinkUse, DiskUse, AReadFailed, AWriteFailed}
-use Rattle.cli_commands.specs.Commands.{Asked, play, run, piped, mirror, boot, node, fsck, judge, gen, list}
+use Rattle.cli_commands.specs.Commands.{Asked, play, run, piped, mirror, boot, node, fsck, judge, states, gen, list}
 use Rattle.qj_cli.specs.Sound.{AreSound as AreSoundLists, ComeOf}
 use Rattle.qj_cli.specs.Boots.{IsBooted}
 use Rattle.qj_cli.specs.Report.{IsReport}
@@ -98,6 +98,7 @@ IsRight boot source disk = HasNames source
 IsRight node source disk = HasRequests source × HasNode disk
 IsRight fsck source disk = Unit {0}
 IsRight judge source disk = HasShort source
+IsRight states source disk = HasShort source
 IsRight (gen number edits nodes) source disk = Unit {0}
 IsRight (list of name) source disk = HasFile of disk name
 
@@ -119,6 +120,7 @@ IsDone boot s = s ≡ status.Ok
 IsDone node s = s ≡ status.Ok
 IsDone fsck s = (s ≡ status.Ok) ⊎ (s ≡ status.Unsound)
 IsDone judge s = (s ≡ status.Ok) ⊎ ((s ≡ status.Unsound) ⊎ (s ≡ status.BadScript))
+IsDone states s = (s ≡ status.Ok) ⊎ ((s ≡ status.Unsound) ⊎ (s ≡ status.BadScript))
 IsDone (gen number edits nodes) s = s ≡ status.Ok
 IsDone (list of name) s = s ≡ status.Ok
 

@@ -4,7 +4,7 @@ use Rattle.cli_commands.specs.declared.status.Status.{Status}
 use Rattle.cli_commands.specs.declared.command_fault.CommandFault.TheVariants as fault
 use Rattle.cli_commands.specs.Uses.{SourceUse, SinkUse, DiskUse}
 use Rattle.cli_commands.specs.Told.{TellsFault}
-use Rattle.cli_commands.specs.Commands.{Asked, play, run, piped, mirror, boot, node, fsck, judge, gen, list}
+use Rattle.cli_commands.specs.Commands.{Asked, play, run, piped, mirror, boot, node, fsck, judge, states, gen, list}
 use Rattle.qj_cli.specs.Sound.{AreSound, ComeOf}
 use Rattle.qj_cli.specs.Plays.{Plays}
 use Rattle.qj_cli.specs.Pipes.{Pipes}
@@ -15,6 +15,7 @@ use Rattle.qj_cli.specs.Generates.{Generates}
 use Rattle.qj_cli.specs.Boots.{Boots}
 use Rattle.qj_cli.specs.Mirrors.{Mirrors}
 use Rattle.qj_cli.specs.Judging.{JudgesReport}
+use Rattle.qj_cli.specs.States.{TellsReport}
 
 -- With this status, by what it did to its source, its sink and its disk. A play leaves the disk
 -- alone, also that of a generated script.
@@ -27,6 +28,7 @@ Does boot source sink disk s = Boots source sink s × (disk.now ≡ disk.before)
 Does node source sink disk s = Serves source sink disk s
 Does fsck source sink disk s = Checks disk sink s
 Does judge source sink disk s = JudgesReport source sink s × (disk.now ≡ disk.before)
+Does states source sink disk s = TellsReport source sink s × (disk.now ≡ disk.before)
 Does (gen number edits nodes) source sink disk s = Generates number edits nodes sink s × (disk.now ≡ disk.before)
 Does (list of name) source sink disk s = Lists of name disk sink s
 
@@ -56,5 +58,6 @@ ReadsNone boot = ⊥
 ReadsNone node = ⊥
 ReadsNone fsck = Unit {0}
 ReadsNone judge = ⊥
+ReadsNone states = ⊥
 ReadsNone (gen number edits nodes) = Unit {0}
 ReadsNone (list of name) = Unit {0}

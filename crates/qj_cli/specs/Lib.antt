@@ -9,4 +9,5 @@ pub mod Does
 pub mod Complete
 pub mod Judging
 pub mod Due
+pub mod States
 pub mod Written

@@ -1,6 +1,6 @@
 //! The top call of the program: words and the bytes of a script or of a report, a file of a disk, or
 //! requests to a node come in; a report, a summary, what a mirror holds, what a standby comes to, a
-//! judgement, a listing, a segment, replies or a fault line go out.
+//! judgement, states, a listing, a segment, replies or a fault line go out.
 #![tactic(auto)]
 
 mod booting;
@@ -12,6 +12,7 @@ mod mirroring;
 mod piping;
 mod playing;
 mod plays;
+mod telling;
 mod top;
 mod written;
 

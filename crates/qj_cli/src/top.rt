@@ -12,6 +12,7 @@ use crate::judging::judge_report;
 use crate::mirroring::mirror_script;
 use crate::piping::pipe_script;
 use crate::playing::{play_script, run_script};
+use crate::telling::tell_report;
 use base_disk::Disk;
 use base_outside::{Sink, Source};
 use cli_commands::{
@@ -62,6 +63,10 @@ fn do_command<S: Source, K: Sink, D: Disk>(
         }
         Command::Judge => Ok(Exit {
             status: judge_report(alloc, source, sink),
+            disk,
+        }),
+        Command::States => Ok(Exit {
+            status: tell_report(alloc, source, sink),
             disk,
         }),
         Command::Gen {
@@ -179,15 +184,19 @@ fn play_by_threads<R: Threads + Wait + Sync, G: Pass + Sync, S: Source, K: Sink>
 ///   moved the nodes is a run of the journal world, and safe, where it writes `agrees`. What result
 ///   lines claim isn't judged, and neither is what positions and rows tell. The disk isn't called.
 ///   `Unsound`: they don't agree.
+/// - `states` tells the state of each node after each line of the report that the source gives, as
+///   JSON, an object a line: what moved the nodes in the epoch order, and each other line behind the
+///   line before it, of its node or its caller. Where the histories and records don't agree it
+///   writes what `judge` does. The disk isn't called.
 /// - `node` opens a JournalNode on the disk, which keeps its state in the disk's files, and answers
 ///   each request line of the source with its reply line. Each reply is written, and the sink
 ///   flushed, before the source is read again. A crash at any moment of the call leaves files that
 ///   stand for the state after some of the lines, stopped inside the next one, and no fewer than
 ///   were answered by then.
 ///
-/// What a mirror holds, a summary, a listing, a segment and findings are computed before any of it
-/// is written. A report, and what a standby comes to, is counted before, and then written as it is
-/// printed, which takes no memory. `Usage`: other words, with the place, from 0,
+/// What a mirror holds, states, a summary, a listing, a segment and findings are computed before any
+/// of it is written. A report, and what a standby comes to, is counted before, and then written as it
+/// is printed, which takes no memory. `Usage`: other words, with the place, from 0,
 /// of the first word that is missing or wrong; neither the source nor the disk is called then.
 /// `Limit`: the source has more than 1,048,576 bytes, a report, made or judged, or what a standby
 /// comes to has more than 268,435,456, the file has more than 134,217,728, or the listing more than

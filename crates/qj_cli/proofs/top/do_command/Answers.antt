@@ -19,6 +19,13 @@ returns-in-Judge-clause-done g c =
     (done_to g.D.DiskModel.tells g.D.DiskModel.view g.D.DiskModel.faults g.D.DiskModel.steady g.D.DiskModel.left c.args.disk c.args.disk)
     c.judge_report.result c.in-Judge.is (c.judge_report.ensures, refl)
 
+pub returns-in-States-clause-done : goal.returns-in-States-clause-done
+returns-in-States-clause-done g c =
+    does_as c.args.command command.States (read_from g.S.Source.left g.S.Source.faults c.args.source.now c.tell_report.new.source)
+    (written_to g.K.Sink.taken g.K.Sink.faults g.K.Sink.kept_back c.args.sink.now c.tell_report.new.sink)
+    (done_to g.D.DiskModel.tells g.D.DiskModel.view g.D.DiskModel.faults g.D.DiskModel.steady g.D.DiskModel.left c.args.disk c.args.disk)
+    c.tell_report.result c.in-States.is (c.tell_report.ensures, refl)
+
 pub returns-in-Gen-clause-done : goal.returns-in-Gen-clause-done
 returns-in-Gen-clause-done g c =
     does_as c.args.command (command.Gen c.in-Gen.number c.in-Gen.edits c.in-Gen.nodes) (read_from g.S.Source.left g.S.Source.faults c.args.source.now c.args.source.now)

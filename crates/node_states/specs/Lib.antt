@@ -1,0 +1,12 @@
+pub mod Lines
+pub mod Order
+pub mod Turns
+pub mod Steps
+pub mod Fields
+pub mod Asks
+pub mod Answers
+pub mod States
+pub mod Texts
+pub mod Laws
+pub mod Told
+pub mod Examples
