@@ -1,5 +1,5 @@
 -- A name node along the lines of its input.
-use Rattle.std.proofs.Common.{ℕ, ◌≡◌, ◌+◌, ◌^◌, ◌≤◌, ◌==◌, List, [], ◌∷◌, ◌++◌, map, length, take, drop, Option, Some, None, Bool, true}
+use Rattle.std.proofs.Common.{ℕ, ◌≡◌, ◌+◌, ◌^◌, ◌<◌, ◌≤◌, ◌==◌, List, [], ◌∷◌, ◌++◌, map, length, take, drop, Option, Some, None, Bool, true}
 use Rattle.std.proofs.Common.{false, cond, refl, sym, ap, ◌∙◌, subst, arith, length-append, append-nil, append_assoc, inl, inr}
 use Rattle.std.specs.Prelude.{codes, is_some}
 use Rattle.std.specs.Io.KnownBytes.{Appends, Consumes, prepend_known}
@@ -7,7 +7,7 @@ use Rattle.std.proofs.KnownBytes.{Appends-nil, Appends-trans, Consumes-nil, Cons
 use Rattle.std.proofs.Math.Seq.{take-append-add, drop-append_seam}
 use Rattle.base_outside.specs.Whole.{TakesFront}
 use Rattle.journal_history.specs.declared.record.Record.{Record}
-use Rattle.journal_session.specs.Lines.{IsLine, lines_text}
+use Rattle.journal_session.specs.Lines.{IsLine, lines_text, longest_line}
 use Rattle.journal_session.specs.Reader.{LineReaderView, to_come, IsNextLine, IsEmptied}
 use Rattle.journal_session.specs.declared.next.Next.{Next}
 use Rattle.journal_session.specs.declared.next.Next.TheVariants as next
@@ -30,11 +30,11 @@ use Rattle.pipe_lead.specs.declared.answer.Answer.{Answer}
 use Rattle.pipe_lead.specs.declared.answer.Answer.TheVariants as answer
 use Rattle.pipe_lead.specs.declared.lead_end.LeadEnd.{LeadEnd}
 use Rattle.pipe_lead.specs.declared.lead_end.LeadEnd.TheVariants as lead_end
-use Rattle.pipe_lead.specs.Inputs.{Step, Took, Passed, Refused, Stated, IsStepOf, TakesStep, IsAnsweredBy, IsTaken, view_of}
+use Rattle.pipe_lead.specs.Inputs.{Step, Took, Passed, Refused, Stated, IsStepOf, TakesStep, IsAnsweredBy, IsTaken}
 use Rattle.pipe_lead.specs.declared.lead_state.LeadState.{LeadState}
-use Rattle.pipe_lead.specs.States.{IsInState, state_text}
+use Rattle.pipe_lead.specs.States.{state_text}
 use Rattle.pipe_lead.specs.Leads.{refusal_text, answer_text, AreTold, none, took, passed, refused, stated, taken_in, AreStepsOf, IsWithRolls, no_line, its_line, one_roll, IsWritten}
-use Rattle.pipe_lead.specs.Leads.{IsAnsweredAs, IsAnswered, IsAnsweredInTime, tells_all, IsLong, EndsAt, HasLed, Leads, IfLasts, end_of}
+use Rattle.pipe_lead.specs.Leads.{IsAnsweredAs, IsAnswered, IsAnsweredInTime, most_used, used_after, tells_all, IsLong, EndsAt, HasLed, Leads, IfLasts, end_of}
 use Rattle.pipe_lead.specs.Begun.{IsBegun, HasDoneFrom, FollowsFrom}
 use Rattle.pipe_lead.proofs.DoneLaws.{done_first, done_line, done_follows, fresh_follows, begun_made}
 use Rattle.pipe_lead.proofs.TakeLaws.{IsOwnAction, own_by, own_action}
@@ -115,11 +115,11 @@ written_more false a b c xs ys h k = front_after a b c xs ys h k
 
 -- ## So far
 -- so many lines of the input were read
-pub record LedSoFar (n : ℕ) (o actor : ActorView) (first now : PipeCaller) (given left before after : Option (List ℕ)) (whole : Bool) (count : ℕ) : Type 0 where
+pub record LedSoFar (n : ℕ) (o actor : ActorView) (first now : PipeCaller) (given left before after : Option (List ℕ)) (whole : Bool) (count used : ℕ) : Type 0 where
   pub input : List (List ℕ)
   pub counted : length input ≡ count
   pub lines : List (List ℕ)
-  pub put_in : IsWithRolls input lines
+  pub put_in : IsWithRolls input lines used
   pub steps : List Step
   pub read : Consumes given left (lines_text input)
   pub are : AreStepsOf n lines steps
@@ -132,7 +132,7 @@ pub record LedSoFar (n : ℕ) (o actor : ActorView) (first now : PipeCaller) (gi
   pub resting : AreResting first.wire → AreResting now.wire
 
 pub led_first : (n : ℕ) (v : ActorView) (s : PipeCaller) (given before : Option (List ℕ)) → 1 ≤ n → IsBegun n v → s.log ≡ new_log n true
-    → LedSoFar n v v s s given given before before true 0
+    → LedSoFar n v v s s given given before before true 0 0
 unfolding actions_of
 led_first n v s given before some e f = record {
   input = [];
@@ -152,10 +152,10 @@ led_first n v s given before some e f = record {
 }
 
 -- one line was answered, of the input or put in
-led_more : (n : ℕ) (o : ActorView) (whole : Bool) (line : List ℕ) (v w : ActorView) (first s t : PipeCaller) (given mid left a b c : Option (List ℕ)) (count sum : ℕ) (input : List (List ℕ))
-    → s.log.nodes ≡ n → (h : LedSoFar n o v first s given mid a b true count) → IsAnsweredAs whole line v s w t b c → length input ≡ sum → IsWithRolls input (h.lines ++ line ∷ [])
-    → Consumes given left (lines_text input) → LedSoFar n o w first t given left a c whole sum
-led_more n o whole line v w first s t given mid left a b c count sum input nodes h k counted put_in read =
+led_more : (n : ℕ) (o : ActorView) (whole : Bool) (line : List ℕ) (v w : ActorView) (first s t : PipeCaller) (given mid left a b c : Option (List ℕ)) (count sum used now : ℕ) (input : List (List ℕ))
+    → s.log.nodes ≡ n → (h : LedSoFar n o v first s given mid a b true count used) → IsAnsweredAs whole line v s w t b c → length input ≡ sum → IsWithRolls input (h.lines ++ line ∷ []) now
+    → Consumes given left (lines_text input) → LedSoFar n o w first t given left a c whole sum now
+led_more n o whole line v w first s t given mid left a b c count sum used now input nodes h k counted put_in read =
     let taken : IsTaken n line k.of (kept_by v s.log) (kept_by w t.log) = subst (λ (m : ℕ). IsTaken m line k.of (kept_by v s.log) (kept_by w t.log)) nodes k.taken in
     let more : List Record = drop (length s.log.past) t.log.past in
     let past : t.log.past ≡ s.log.past ++ more =
@@ -177,17 +177,18 @@ led_more n o whole line v w first s t given mid left a b c count sum input nodes
       resting = λ r. k.resting;
     }
 
-pub led_next : (n : ℕ) (o : ActorView) (whole : Bool) (line : List ℕ) (v w : ActorView) (first s t : PipeCaller) (given mid left a b c : Option (List ℕ)) (count : ℕ) → s.log.nodes ≡ n
-    → LedSoFar n o v first s given mid a b true count → IsAnsweredAs whole line v s w t b c → Consumes mid left (line ++ 10 ∷ []) → LedSoFar n o w first t given left a c whole (count + 1)
-led_next n o whole line v w first s t given mid left a b c count nodes h k read =
-    led_more n o whole line v w first s t given mid left a b c count (count + 1) (h.input ++ line ∷ []) nodes h k (omega (arith, length-append h.input (line ∷ []), h.counted))
-    (its_line h.input h.lines line h.put_in)
+pub led_next : (n : ℕ) (o : ActorView) (whole : Bool) (line : List ℕ) (v w : ActorView) (first s t : PipeCaller) (given mid left a b c : Option (List ℕ)) (count used : ℕ) → s.log.nodes ≡ n
+    → LedSoFar n o v first s given mid a b true count used → used ≤ most_used → IsAnsweredAs whole line v s w t b c → Consumes mid left (line ++ 10 ∷ [])
+    → LedSoFar n o w first t given left a c whole (count + 1) (used_after used line)
+led_next n o whole line v w first s t given mid left a b c count used nodes h few k read =
+    led_more n o whole line v w first s t given mid left a b c count (count + 1) used (used_after used line) (h.input ++ line ∷ []) nodes h k (omega (arith, length-append h.input (line ∷ []), h.counted))
+    (its_line h.input h.lines used line h.put_in few)
     (subst (λ (x : List ℕ). Consumes given left x) (text_snoc h.input line) (Consumes-trans given mid left (lines_text h.input) (line ++ 10 ∷ []) h.read read))
 
-pub led_rolled : (n : ℕ) (o : ActorView) (whole : Bool) (v w : ActorView) (first s t : PipeCaller) (given left a b c : Option (List ℕ)) (count : ℕ) → s.log.nodes ≡ n
-    → LedSoFar n o v first s given left a b true count → IsAnsweredAs whole (codes "roll") v s w t b c → LedSoFar n o w first t given left a c whole count
-led_rolled n o whole v w first s t given left a b c count nodes h k =
-    led_more n o whole (codes "roll") v w first s t given left left a b c count count h.input nodes h k h.counted (one_roll h.input h.lines h.put_in) h.read
+pub led_rolled : (n : ℕ) (o : ActorView) (whole : Bool) (v w : ActorView) (first s t : PipeCaller) (given left a b c : Option (List ℕ)) (count used : ℕ) → s.log.nodes ≡ n
+    → LedSoFar n o v first s given left a b true count used → most_used < used → IsAnsweredAs whole (codes "roll") v s w t b c → LedSoFar n o w first t given left a c whole count 0
+led_rolled n o whole v w first s t given left a b c count used nodes h due k =
+    led_more n o whole (codes "roll") v w first s t given left left a b c count count used 0 h.input nodes h k h.counted (one_roll h.input h.lines used h.put_in due) h.read
 
 -- ## At its end
 -- what a reader held when it was let go was read, too
@@ -197,12 +198,15 @@ let_go r q (Some x) None xs e h = absurd h
 let_go r q (Some x) (Some y) xs e h = ap (λ (l : List ℕ). l ++ x) (sym e) ∙ h ∙ sym (append_assoc xs q.held y)
 
 -- the lines were told whole, or a front of them where a write failed
-pub has_led : (end : LeadEnd) (n : ℕ) (o : ActorView) (v : ActorView) (first s : PipeCaller) (r q : LineReaderView) (given left a b : Option (List ℕ)) (count : ℕ) → r.held ≡ []
-    → (h : LedSoFar n o v first s (to_come r given) (to_come q left) a b (tells_all end) count) → EndsAt end h.input q.held left → HasLed n o v s.log given left a b end
-has_led end n o v first s r q given left a b count e h ends = record {
+pub has_led : (end : LeadEnd) (n : ℕ) (o : ActorView) (v : ActorView) (first s : PipeCaller) (r q : LineReaderView) (given left a b : Option (List ℕ)) (count used : ℕ) → r.held ≡ []
+    → (h : LedSoFar n o v first s (to_come r given) (to_come q left) a b (tells_all end) count used) → (tells_all end ≡ true → used ≤ most_used) → EndsAt end h.input q.held left
+    → HasLed n o v s.log given left a b end
+has_led end n o v first s r q given left a b count used e h few ends = record {
   input = h.input;
   lines = h.lines;
+  used = used;
   put_in = h.put_in;
+  in_time = few;
   steps = h.steps;
   rest = q.held;
   read = let_go r q given left (lines_text h.input) e h.read;
@@ -215,13 +219,15 @@ has_led end n o v first s r q given left a b count e h ends = record {
 }
 
 -- some bytes more were read
-led_rest : (end : LeadEnd) (n : ℕ) (o : ActorView) (v : ActorView) (first s : PipeCaller) (r q p : LineReaderView) (given mid left a b : Option (List ℕ)) (count : ℕ) (bytes : List ℕ)
-    → tells_all end ≡ true → r.held ≡ [] → (h : LedSoFar n o v first s (to_come r given) (to_come q mid) a b true count)
+led_rest : (end : LeadEnd) (n : ℕ) (o : ActorView) (v : ActorView) (first s : PipeCaller) (r q p : LineReaderView) (given mid left a b : Option (List ℕ)) (count used : ℕ) (bytes : List ℕ)
+    → tells_all end ≡ true → r.held ≡ [] → (h : LedSoFar n o v first s (to_come r given) (to_come q mid) a b true count used) → used ≤ most_used
     → Consumes (to_come q mid) (to_come p left) bytes → EndsAt end h.input (bytes ++ p.held) left → HasLed n o v s.log given left a b end
-led_rest end n o v first s r q p given mid left a b count bytes all e h more ends = record {
+led_rest end n o v first s r q p given mid left a b count used bytes all e h few more ends = record {
   input = h.input;
   lines = h.lines;
+  used = used;
   put_in = h.put_in;
+  in_time = λ t. few;
   steps = h.steps;
   rest = bytes ++ p.held;
   read = subst (λ (x : List ℕ). Consumes given left x) (append_assoc (lines_text h.input) bytes p.held)
@@ -239,29 +245,29 @@ line_alone : (line : List ℕ) (p : LineReaderView) (left : Option (List ℕ)) �
 line_alone line p left one h = subst (λ (x : List ℕ). IsLine x) (sym (ap (λ (x : List ℕ). line ++ x) h.held ∙ append-nil line)) one
 
 -- where there is no next line; of an input that is counted anew no line comes too late
-pub ends_at : (of : Next) (end : LeadEnd) (line : List ℕ) (n : ℕ) (o : ActorView) (v : ActorView) (first s : PipeCaller) (r q p : LineReaderView) (given mid left a b : Option (List ℕ)) (count : ℕ)
-    → r.held ≡ [] → LedSoFar n o v first s (to_come r given) (to_come q mid) a b true count → q.taken ≡ 0 → IsNextLine of line q p mid left → end_of of ≡ Some end
+pub ends_at : (of : Next) (end : LeadEnd) (line : List ℕ) (n : ℕ) (o : ActorView) (v : ActorView) (first s : PipeCaller) (r q p : LineReaderView) (given mid left a b : Option (List ℕ)) (count used : ℕ)
+    → r.held ≡ [] → LedSoFar n o v first s (to_come r given) (to_come q mid) a b true count used → used ≤ most_used → q.taken ≡ 0 → IsNextLine of line q p mid left → end_of of ≡ Some end
     → IfLasts end (HasLed n o v s.log given left a b end)
-ends_at next.Line end line n o v first s r q p given mid left a b count e h z k is = absurd (cc is)
-ends_at next.Last end line n o v first s r q p given mid left a b count e h z k is =
+ends_at next.Line end line n o v first s r q p given mid left a b count used e h few z k is = absurd (cc is)
+ends_at next.Last end line n o v first s r q p given mid left a b count used e h few z k is =
     let same : lead_end.Done ≡ end = cc is in
     subst (λ (x : LeadEnd). IfLasts x (HasLed n o v s.log given left a b x)) same
-    (led_rest lead_end.Done n o v first s r q p given mid left a b count line refl e h k.0.given (line_alone line p left k.0.one k.2, k.2.end))
-ends_at next.End end line n o v first s r q p given mid left a b count e h z k is =
+    (led_rest lead_end.Done n o v first s r q p given mid left a b count used line refl e h few k.0.given (line_alone line p left k.0.one k.2, k.2.end))
+ends_at next.End end line n o v first s r q p given mid left a b count used e h few z k is =
     let same : lead_end.Done ≡ end = cc is in
     subst (λ (x : LeadEnd). IfLasts x (HasLed n o v s.log given left a b x)) same
-    (led_rest lead_end.Done n o v first s r q p given mid left a b count [] refl e h k.0.given (line_alone [] p left tt k.1, k.1.end))
-ends_at next.LongLine end line n o v first s r q p given mid left a b count e h z k is =
+    (led_rest lead_end.Done n o v first s r q p given mid left a b count used [] refl e h few k.0.given (line_alone [] p left tt k.1, k.1.end))
+ends_at next.LongLine end line n o v first s r q p given mid left a b count used e h few z k is =
     let same : lead_end.LongLine ≡ end = cc is in
     let long : IsLong p.held = record { front = k.1.front; behind = k.1.behind; spelled = k.1.spelled; one = k.1.one; long = k.1.long } in
     subst (λ (x : LeadEnd). IfLasts x (HasLed n o v s.log given left a b x)) same
-    (led_rest lead_end.LongLine n o v first s r q p given mid left a b count [] refl e h k.0.given (inl long))
-ends_at next.LongInput end line n o v first s r q p given mid left a b count e h z k is = absurd (omega (arith, z, k.0.taken, k.0.all, k.1.short))
-ends_at next.ReadFault end line n o v first s r q p given mid left a b count e h z k is =
+    (led_rest lead_end.LongLine n o v first s r q p given mid left a b count used [] refl e h few k.0.given (inl long))
+ends_at next.LongInput end line n o v first s r q p given mid left a b count used e h few z k is = absurd (omega (arith, z, k.0.taken, k.0.all, k.1.short))
+ends_at next.ReadFault end line n o v first s r q p given mid left a b count used e h few z k is =
     let same : lead_end.ReadFault ≡ end = cc is in
     subst (λ (x : LeadEnd). IfLasts x (HasLed n o v s.log given left a b x)) same
-    (led_rest lead_end.ReadFault n o v first s r q p given mid left a b count [] refl e h k.0.given k.1.one)
-ends_at next.OutOfMemory end line n o v first s r q p given mid left a b count e h z k is =
+    (led_rest lead_end.ReadFault n o v first s r q p given mid left a b count used [] refl e h few k.0.given k.1.one)
+ends_at next.OutOfMemory end line n o v first s r q p given mid left a b count used e h few z k is =
     let same : lead_end.OutOfMemory ≡ end = cc is in
     subst (λ (x : LeadEnd). IfLasts x (HasLed n o v s.log given left a b x)) same tt
 
@@ -273,26 +279,26 @@ later_at lead_end.WriteFault first s h = pipes_go first s h
 later_at lead_end.OutOfMemory first s h = tt
 
 -- where a line ends it
-pub ends_with : (of : LeadEnd) (line : List ℕ) (n : ℕ) (o : ActorView) (v w : ActorView) (first s t : PipeCaller) (r q p : LineReaderView) (given mid left a b c : Option (List ℕ)) (count : ℕ)
-    → r.held ≡ [] → s.log.nodes ≡ n → LedSoFar n o v first s (to_come r given) (to_come q mid) a b true count → IsAnswered (Some of) line v s w t b c
+pub ends_with : (of : LeadEnd) (line : List ℕ) (n : ℕ) (o : ActorView) (v w : ActorView) (first s t : PipeCaller) (r q p : LineReaderView) (given mid left a b c : Option (List ℕ)) (count used : ℕ)
+    → r.held ≡ [] → s.log.nodes ≡ n → LedSoFar n o v first s (to_come r given) (to_come q mid) a b true count used → used ≤ most_used → IsAnswered (Some of) line v s w t b c
     → Consumes (to_come q mid) (to_come p left) (line ++ 10 ∷ []) → IfLasts of (HasLed n o w t.log given left a c of)
-ends_with lead_end.Done line n o v w first s t r q p given mid left a b c count e nodes h k read = absurd k
-ends_with lead_end.LongLine line n o v w first s t r q p given mid left a b c count e nodes h k read = absurd k
-ends_with lead_end.ReadFault line n o v w first s t r q p given mid left a b c count e nodes h k read = absurd k
-ends_with lead_end.WriteFault line n o v w first s t r q p given mid left a b c count e nodes h k read =
-    has_led lead_end.WriteFault n o w first t r p given left a c (count + 1) e
-    (led_next n o false line v w first s t (to_come r given) (to_come q mid) (to_come p left) a b c count nodes h k read) tt
-ends_with lead_end.OutOfMemory line n o v w first s t r q p given mid left a b c count e nodes h k read = tt
+ends_with lead_end.Done line n o v w first s t r q p given mid left a b c count used e nodes h few k read = absurd k
+ends_with lead_end.LongLine line n o v w first s t r q p given mid left a b c count used e nodes h few k read = absurd k
+ends_with lead_end.ReadFault line n o v w first s t r q p given mid left a b c count used e nodes h few k read = absurd k
+ends_with lead_end.WriteFault line n o v w first s t r q p given mid left a b c count used e nodes h few k read =
+    has_led lead_end.WriteFault n o w first t r p given left a c (count + 1) (used_after used line) e
+    (led_next n o false line v w first s t (to_come r given) (to_come q mid) (to_come p left) a b c count used nodes h few k read) (λ t. absurd (cc t)) tt
+ends_with lead_end.OutOfMemory line n o v w first s t r q p given mid left a b c count used e nodes h few k read = tt
 
 -- where the roll that is put in ends it
-pub ends_rolled : (of : LeadEnd) (n : ℕ) (o : ActorView) (v w : ActorView) (first s t : PipeCaller) (r q : LineReaderView) (given left a b c : Option (List ℕ)) (count : ℕ) → r.held ≡ []
-    → s.log.nodes ≡ n → LedSoFar n o v first s (to_come r given) (to_come q left) a b true count → IsAnswered (Some of) (codes "roll") v s w t b c → IfLasts of (HasLed n o w t.log given left a c of)
-ends_rolled lead_end.Done n o v w first s t r q given left a b c count e nodes h k = absurd k
-ends_rolled lead_end.LongLine n o v w first s t r q given left a b c count e nodes h k = absurd k
-ends_rolled lead_end.ReadFault n o v w first s t r q given left a b c count e nodes h k = absurd k
-ends_rolled lead_end.WriteFault n o v w first s t r q given left a b c count e nodes h k =
-    has_led lead_end.WriteFault n o w first t r q given left a c count e (led_rolled n o false v w first s t (to_come r given) (to_come q left) a b c count nodes h k) tt
-ends_rolled lead_end.OutOfMemory n o v w first s t r q given left a b c count e nodes h k = tt
+pub ends_rolled : (of : LeadEnd) (n : ℕ) (o : ActorView) (v w : ActorView) (first s t : PipeCaller) (r q : LineReaderView) (given left a b c : Option (List ℕ)) (count used : ℕ) → r.held ≡ []
+    → s.log.nodes ≡ n → LedSoFar n o v first s (to_come r given) (to_come q left) a b true count used → most_used < used → IsAnswered (Some of) (codes "roll") v s w t b c → IfLasts of (HasLed n o w t.log given left a c of)
+ends_rolled lead_end.Done n o v w first s t r q given left a b c count used e nodes h due k = absurd k
+ends_rolled lead_end.LongLine n o v w first s t r q given left a b c count used e nodes h due k = absurd k
+ends_rolled lead_end.ReadFault n o v w first s t r q given left a b c count used e nodes h due k = absurd k
+ends_rolled lead_end.WriteFault n o v w first s t r q given left a b c count used e nodes h due k =
+    has_led lead_end.WriteFault n o w first t r q given left a c count 0 e (led_rolled n o false v w first s t (to_come r given) (to_come q left) a b c count used nodes h due k) (λ t. absurd (cc t)) tt
+ends_rolled lead_end.OutOfMemory n o v w first s t r q given left a b c count used e nodes h due k = tt
 
 pub later_with : (of : LeadEnd) (line : List ℕ) (v w : ActorView) (first s t : PipeCaller) (b c : Option (List ℕ)) → AreLater pipe_wire first s
     → IsAnswered (Some of) line v s w t b c → IfLasts of (ArePipesLater (pipes_of first) (pipes_of t))
@@ -318,10 +324,10 @@ rest_with lead_end.ReadFault line v w first s t b c k = absurd k
 rest_with lead_end.WriteFault line v w first s t b c k = λ r. k.resting
 rest_with lead_end.OutOfMemory line v w first s t b c k = tt
 
-pub lines_cut_rest : (of : LeadEnd) (line : List ℕ) (v w : ActorView) (first s t : PipeCaller) (b c : Option (List ℕ)) → IsAnsweredInTime (Some of) line v s w t b c
+pub lines_cut_rest : (of : LeadEnd) (line : List ℕ) (v w : ActorView) (first s t : PipeCaller) (b c : Option (List ℕ)) (used now : ℕ) → IsAnsweredInTime (Some of) used line v s w t b c now
     → IfLasts of (AreResting first.wire → AreResting t.wire)
-lines_cut_rest of line v w first s t b c (inl one) = rest_with of line v w first s t b c one
-lines_cut_rest of line v w first s t b c (inr two) = rest_with of (codes "roll") two.actor w first two.seats t two.told c two.roll
+lines_cut_rest of line v w first s t b c used now (inl alone) = rest_with of line v w first s t b c alone.one
+lines_cut_rest of line v w first s t b c used now (inr two) = rest_with of (codes "roll") two.actor w first two.seats t two.told c two.roll
 
 -- ## One line
 pub past_grows : (s t : PipeCaller) (from : ℕ) → from ≡ length s.log.past → AreLater pipe_wire s t → from ≤ length t.log.past
@@ -368,14 +374,21 @@ answered_idle line v w s t a b h k =
 pub answered_named : (line : List ℕ) (v w : ActorView) (s t : PipeCaller) (a b : Option (List ℕ)) → IsAnsweredAs true line v s w t a b → has_names w ≡ true
 answered_named line v w s t a b k = k.named
 
-pub not_rolled : (of : Option LeadEnd) (line : List ℕ) (v w : ActorView) (s t : PipeCaller) (a b : Option (List ℕ)) → IsAnswered of line v s w t a b → IsAnsweredInTime of line v s w t a b
-not_rolled of line v w s t a b h = inl h
+-- where the line ends it
+pub cut_off : (end : LeadEnd) (line : List ℕ) (v w : ActorView) (s t : PipeCaller) (a b : Option (List ℕ)) (used now : ℕ) → IsAnswered (Some end) line v s w t a b
+    → IsAnsweredInTime (Some end) used line v s w t a b now
+cut_off end line v w s t a b used now h = inl (record { one = h; few = tt; counted = λ e. absurd (cc e) })
 
-pub rolled : (of : Option LeadEnd) (line : List ℕ) (v u w : ActorView) (s r t : PipeCaller) (a b d : Option (List ℕ)) → IsAnsweredAs true line v s u r a b → IsAnswered of (codes "roll") u r w t b d
-    → IsAnsweredInTime of line v s w t a d
-rolled of line v u w s r t a b d h k = inr (record { actor = u; seats = r; told = b; first = h; roll = k })
+pub not_rolled : (line : List ℕ) (v w : ActorView) (s t : PipeCaller) (a b : Option (List ℕ)) (used now : ℕ) → IsAnsweredAs true line v s w t a b → now ≡ used_after used line → now ≤ most_used
+    → IsAnsweredInTime None used line v s w t a b now
+not_rolled line v w s t a b used now h is few = inl (record { one = h; few = subst (λ (k : ℕ). k ≤ most_used) is few; counted = λ e. is })
 
-pub ruleset in_time = (answered_idle, answered_named, not_rolled, rolled)
+pub rolled : (of : Option LeadEnd) (line : List ℕ) (v u w : ActorView) (s r t : PipeCaller) (a b d : Option (List ℕ)) (used mid now : ℕ) → IsAnsweredAs true line v s u r a b
+    → IsAnswered of (codes "roll") u r w t b d → mid ≡ used_after used line → most_used < mid → now ≡ 0 → IsAnsweredInTime of used line v s w t a d now
+rolled of line v u w s r t a b d used mid now h k is due zero =
+    inr (record { actor = u; seats = r; told = b; first = h; roll = k; due = subst (λ (n : ℕ). most_used < n) is due; counted = zero })
+
+pub ruleset in_time = (answered_idle, answered_named, cut_off, not_rolled, rolled)
 
 -- a reader before its first byte
 abbrev pub fresh_reader : LineReaderView
@@ -383,17 +396,17 @@ fresh_reader = record { held = []; taken = 0; line = [] }
 
 pub lines_first : (v : ActorView) (s : PipeCaller) (r : LineReaderView) (given before : Option (List ℕ)) → 1 ≤ s.log.nodes → IsBegun s.log.nodes v
     → s.log ≡ new_log s.log.nodes true → r.held ≡ []
-    → LedSoFar s.log.nodes v v s s (to_come fresh_reader given) (to_come r given) before before true 0
+    → LedSoFar s.log.nodes v v s s (to_come fresh_reader given) (to_come r given) before before true 0 0
 lines_first v s r given before some e f none_held =
-    subst (λ (x : Option (List ℕ)). LedSoFar s.log.nodes v v s s (to_come fresh_reader given) x before before true 0) (ap (λ (l : List ℕ). prepend_known l given) (sym none_held))
+    subst (λ (x : Option (List ℕ)). LedSoFar s.log.nodes v v s s (to_come fresh_reader given) x before before true 0 0) (ap (λ (l : List ℕ). prepend_known l given) (sym none_held))
     (led_first s.log.nodes v s (to_come fresh_reader given) before some e f)
 
-pub so_idle : (o v : ActorView) (first s : PipeCaller) (given left a b : Option (List ℕ)) (count : ℕ) → LedSoFar first.log.nodes o v first s given left a b true count
+pub so_idle : (o v : ActorView) (first s : PipeCaller) (given left a b : Option (List ℕ)) (count used : ℕ) → LedSoFar first.log.nodes o v first s given left a b true count used
     → IsIdleActor s.log.nodes (kept_by v s.log)
-so_idle o v first s given left a b count h = subst (λ (n : ℕ). IsIdleActor n (kept_by v s.log)) (sym h.later.nodes) h.done.idle
+so_idle o v first s given left a b count used h = subst (λ (n : ℕ). IsIdleActor n (kept_by v s.log)) (sym h.later.nodes) h.done.idle
 
-pub so_named : (o v : ActorView) (first s : PipeCaller) (given left a b : Option (List ℕ)) (count : ℕ) → LedSoFar first.log.nodes o v first s given left a b true count → has_names v ≡ true
-so_named o v first s given left a b count h = h.named
+pub so_named : (o v : ActorView) (first s : PipeCaller) (given left a b : Option (List ℕ)) (count used : ℕ) → LedSoFar first.log.nodes o v first s given left a b true count used → has_names v ≡ true
+so_named o v first s given left a b count used h = h.named
 
 -- a line came
 line_came : (of : Next) (line : List ℕ) (q p : LineReaderView) (mid left : Option (List ℕ)) → end_of of ≡ None → IsNextLine of line q p mid left → IsNextLine next.Line line q p mid left
@@ -410,59 +423,67 @@ given_line : (of : Next) (line : List ℕ) (q p : LineReaderView) (mid left : Op
 given_line of line q p mid left k e is =
     subst (λ (l : List ℕ). Consumes (to_come q mid) (to_come p left) (l ++ 10 ∷ [])) (sym is) (line_came of p.line q p mid left e k).given
 
--- one line more, and maybe a roll behind it
-pub lines_next : (of : Next) (line : List ℕ) (o v w : ActorView) (first s t : PipeCaller) (q p n : LineReaderView) (given mid left a b c : Option (List ℕ)) (count : ℕ)
-    → LedSoFar first.log.nodes o v first s (to_come fresh_reader given) (to_come q mid) a b true count → IsNextLine of p.line q p mid left → end_of of ≡ None
-    → n.held ≡ p.held → line ≡ p.line → IsAnsweredInTime None line v s w t b c
-    → LedSoFar first.log.nodes o w first t (to_come fresh_reader given) (to_come n left) a c true (count + 1)
-lines_next of line o v w first s t q p n given mid left a b c count h k came held is answered =
-    subst (λ (l : List ℕ). LedSoFar first.log.nodes o w first t (to_come fresh_reader given) (prepend_known l left) a c true (count + 1)) (sym held) (by answered)
+-- the line is no longer than lines may be
+pub line_short : (of : Next) (line : List ℕ) (q p : LineReaderView) (mid left : Option (List ℕ)) → IsNextLine of p.line q p mid left → end_of of ≡ None → line ≡ p.line
+    → length line ≤ longest_line
+line_short of line q p mid left k e is = subst (λ (l : List ℕ). length l ≤ longest_line) (sym is) (line_came of p.line q p mid left e k).short
+
+-- one line more, and a roll behind it where one is due
+pub lines_next : (of : Next) (line : List ℕ) (o v w : ActorView) (first s t : PipeCaller) (q p n : LineReaderView) (given mid left a b c : Option (List ℕ)) (count used now : ℕ)
+    → LedSoFar first.log.nodes o v first s (to_come fresh_reader given) (to_come q mid) a b true count used → used ≤ most_used → IsNextLine of p.line q p mid left → end_of of ≡ None
+    → n.held ≡ p.held → line ≡ p.line → IsAnsweredInTime None used line v s w t b c now
+    → LedSoFar first.log.nodes o w first t (to_come fresh_reader given) (to_come n left) a c true (count + 1) now
+lines_next of line o v w first s t q p n given mid left a b c count used now h few k came held is answered =
+    subst (λ (l : List ℕ). LedSoFar first.log.nodes o w first t (to_come fresh_reader given) (prepend_known l left) a c true (count + 1) now) (sym held) (by answered)
   where
     taken : Consumes (to_come q mid) (to_come p left) (line ++ 10 ∷ [])
     taken = given_line of line q p mid left k came is
 
-    by : IsAnsweredInTime None line v s w t b c → LedSoFar first.log.nodes o w first t (to_come fresh_reader given) (to_come p left) a c true (count + 1)
-    by (inl one) =
-        led_next first.log.nodes o true line v w first s t (to_come fresh_reader given) (to_come q mid) (to_come p left) a b c count h.later.nodes h one taken
+    by : IsAnsweredInTime None used line v s w t b c now → LedSoFar first.log.nodes o w first t (to_come fresh_reader given) (to_come p left) a c true (count + 1) now
+    by (inl alone) =
+        subst (λ (u : ℕ). LedSoFar first.log.nodes o w first t (to_come fresh_reader given) (to_come p left) a c true (count + 1) u) (sym (alone.counted refl))
+        (led_next first.log.nodes o true line v w first s t (to_come fresh_reader given) (to_come q mid) (to_come p left) a b c count used h.later.nodes h few alone.one taken)
     by (inr two) =
-        let so = led_next first.log.nodes o true line v two.actor first s two.seats (to_come fresh_reader given) (to_come q mid) (to_come p left) a b two.told count h.later.nodes h two.first taken in
-        led_rolled first.log.nodes o true two.actor w first two.seats t (to_come fresh_reader given) (to_come p left) a two.told c (count + 1) so.later.nodes so two.roll
+        let so = led_next first.log.nodes o true line v two.actor first s two.seats (to_come fresh_reader given) (to_come q mid) (to_come p left) a b two.told count used h.later.nodes h few two.first taken in
+        subst (λ (u : ℕ). LedSoFar first.log.nodes o w first t (to_come fresh_reader given) (to_come p left) a c true (count + 1) u) (sym two.counted)
+        (led_rolled first.log.nodes o true two.actor w first two.seats t (to_come fresh_reader given) (to_come p left) a two.told c (count + 1) (used_after used line) so.later.nodes so two.due two.roll)
 
 -- no line more
-pub lines_end : (of : Next) (end : LeadEnd) (line : List ℕ) (o v : ActorView) (first s : PipeCaller) (q p : LineReaderView) (given mid left a b : Option (List ℕ)) (count : ℕ)
-    → LedSoFar first.log.nodes o v first s (to_come fresh_reader given) (to_come q mid) a b true count → q.taken ≡ 0 → IsNextLine of line q p mid left → end_of of ≡ Some end
+pub lines_end : (of : Next) (end : LeadEnd) (line : List ℕ) (o v : ActorView) (first s : PipeCaller) (q p : LineReaderView) (given mid left a b : Option (List ℕ)) (count used : ℕ)
+    → LedSoFar first.log.nodes o v first s (to_come fresh_reader given) (to_come q mid) a b true count used → used ≤ most_used → q.taken ≡ 0 → IsNextLine of line q p mid left → end_of of ≡ Some end
     → IfLasts end (HasLed first.log.nodes o v s.log given left a b end)
-lines_end of end line o v first s q p given mid left a b count h z k is = ends_at of end line first.log.nodes o v first s fresh_reader q p given mid left a b count refl h z k is
+lines_end of end line o v first s q p given mid left a b count used h few z k is =
+    ends_at of end line first.log.nodes o v first s fresh_reader q p given mid left a b count used refl h few z k is
 
 -- a line, or the roll behind it, ends it
-pub lines_cut : (got : Next) (of : LeadEnd) (line : List ℕ) (o v w : ActorView) (first s t : PipeCaller) (q p : LineReaderView) (given mid left a b c : Option (List ℕ)) (count : ℕ)
-    → LedSoFar first.log.nodes o v first s (to_come fresh_reader given) (to_come q mid) a b true count → IsNextLine got p.line q p mid left → end_of got ≡ None → line ≡ p.line
-    → IsAnsweredInTime (Some of) line v s w t b c → IfLasts of (HasLed first.log.nodes o w t.log given left a c of)
-lines_cut got of line o v w first s t q p given mid left a b c count h k came is answered = by answered
+pub lines_cut : (got : Next) (of : LeadEnd) (line : List ℕ) (o v w : ActorView) (first s t : PipeCaller) (q p : LineReaderView) (given mid left a b c : Option (List ℕ)) (count used now : ℕ)
+    → LedSoFar first.log.nodes o v first s (to_come fresh_reader given) (to_come q mid) a b true count used → used ≤ most_used → IsNextLine got p.line q p mid left → end_of got ≡ None → line ≡ p.line
+    → IsAnsweredInTime (Some of) used line v s w t b c now → IfLasts of (HasLed first.log.nodes o w t.log given left a c of)
+lines_cut got of line o v w first s t q p given mid left a b c count used now h few k came is answered = by answered
   where
     taken : Consumes (to_come q mid) (to_come p left) (line ++ 10 ∷ [])
     taken = given_line got line q p mid left k came is
 
-    by : IsAnsweredInTime (Some of) line v s w t b c → IfLasts of (HasLed first.log.nodes o w t.log given left a c of)
-    by (inl one) = ends_with of line first.log.nodes o v w first s t fresh_reader q p given mid left a b c count refl h.later.nodes h one taken
+    by : IsAnsweredInTime (Some of) used line v s w t b c now → IfLasts of (HasLed first.log.nodes o w t.log given left a c of)
+    by (inl alone) = ends_with of line first.log.nodes o v w first s t fresh_reader q p given mid left a b c count used refl h.later.nodes h few alone.one taken
     by (inr two) =
-        let so = led_next first.log.nodes o true line v two.actor first s two.seats (to_come fresh_reader given) (to_come q mid) (to_come p left) a b two.told count h.later.nodes h two.first taken in
-        ends_rolled of first.log.nodes o two.actor w first two.seats t fresh_reader p given left a two.told c (count + 1) refl so.later.nodes so two.roll
+        let so = led_next first.log.nodes o true line v two.actor first s two.seats (to_come fresh_reader given) (to_come q mid) (to_come p left) a b two.told count used h.later.nodes h few two.first taken in
+        ends_rolled of first.log.nodes o two.actor w first two.seats t fresh_reader p given left a two.told c (count + 1) (used_after used line) refl so.later.nodes so two.due two.roll
 
-pub lines_cut_later : (of : LeadEnd) (line : List ℕ) (o v w : ActorView) (first s t : PipeCaller) (given left a b c : Option (List ℕ)) (count : ℕ)
-    → LedSoFar first.log.nodes o v first s given left a b true count → IsAnsweredInTime (Some of) line v s w t b c → IfLasts of (ArePipesLater (pipes_of first) (pipes_of t))
-lines_cut_later of line o v w first s t given left a b c count h (inl one) = later_with of line v w first s t b c h.later one
-lines_cut_later of line o v w first s t given left a b c count h (inr two) =
+pub lines_cut_later : (of : LeadEnd) (line : List ℕ) (o v w : ActorView) (first s t : PipeCaller) (given left a b c : Option (List ℕ)) (count used now : ℕ)
+    → LedSoFar first.log.nodes o v first s given left a b true count used → IsAnsweredInTime (Some of) used line v s w t b c now → IfLasts of (ArePipesLater (pipes_of first) (pipes_of t))
+lines_cut_later of line o v w first s t given left a b c count used now h (inl alone) = later_with of line v w first s t b c h.later alone.one
+lines_cut_later of line o v w first s t given left a b c count used now h (inr two) =
     later_with of (codes "roll") two.actor w first two.seats t two.told c (later_on pipe_wire readies_on first s two.seats h.later two.first.later) two.roll
 
 -- the lines that a process can count came to their end
-pub lines_out : (o v : ActorView) (first s : PipeCaller) (q : LineReaderView) (given left a b : Option (List ℕ)) (count : ℕ)
-    → LedSoFar first.log.nodes o v first s (to_come fresh_reader given) (to_come q left) a b true count → 2 ^ 64 ≤ count + 1
+pub lines_out : (o v : ActorView) (first s : PipeCaller) (q : LineReaderView) (given left a b : Option (List ℕ)) (count used : ℕ)
+    → LedSoFar first.log.nodes o v first s (to_come fresh_reader given) (to_come q left) a b true count used → used ≤ most_used → 2 ^ 64 ≤ count + 1
     → HasLed first.log.nodes o v s.log given left a b lead_end.LongLine
-lines_out o v first s q given left a b count h many =
-    has_led lead_end.LongLine first.log.nodes o v first s fresh_reader q given left a b count refl h (inr (omega (arith, many, h.counted)))
+lines_out o v first s q given left a b count used h few many =
+    has_led lead_end.LongLine first.log.nodes o v first s fresh_reader q given left a b count used refl h (λ t. few) (inr (omega (arith, many, h.counted)))
 
-pub ruleset line_by_line = (lines_first, so_idle, so_named, lines_next, lines_end, lines_cut, lines_cut_later, lines_out)
+pub ruleset line_by_line = (lines_first, so_idle, so_named, line_short, lines_next, lines_end, lines_cut, lines_cut_later, lines_out)
 
 -- ## A whole life
 pub leads : (end : LeadEnd) (n : ℕ) (o v : ActorView) (l : LogView) (given left a b : Option (List ℕ)) → HasLed n o v l given left a b end → Leads n o v l given left a b end

@@ -3,3 +3,4 @@ pub mod TextLaws
 pub mod TakeLaws
 pub mod LeadLaws
 pub mod EndLaws
+pub mod WidthLaws

@@ -1,6 +1,7 @@
 -- What a name node in a process of its own did with its input.
-use Rattle.std.specs.Prelude.{ℕ, ◌≡◌, ◌+◌, ◌^◌, ◌<◌, ◌≤◌, ◌⊎◌, Bool, true, false, List, [], ◌∷◌, ◌++◌, Option, None, Some, codes, decimal, map, drop, length}
-use Rattle.std.specs.List.{flat_map}
+use Rattle.std.specs.Prelude.{ℕ, ◌≡◌, ◌+◌, ◌*◌, ◌^◌, ◌<◌, ◌≤◌, ◌⊎◌, ◌||◌, ◌==◌, Bool, true, false, if◌then◌else◌, List, [], ◌∷◌, ◌++◌, Option, None, Some, codes, decimal, map, drop, length}
+use Rattle.std.specs.List.{flat_map, starts_with}
+use Rattle.std.specs.Str.{bytes_eq}
 use Rattle.std.specs.Io.KnownBytes.{Appends, Consumes, IsAtEnd}
 use Rattle.base_outside.specs.Whole.{TakesFront}
 use Rattle.journal_history.specs.declared.record.Record.{Record}
@@ -96,23 +97,58 @@ IsAnswered (Some lead_end.WriteFault) line old was new now before after = IsAnsw
 IsAnswered (Some lead_end.OutOfMemory) line old was new now before after = Unit {0}
 IsAnswered (Some _) line old was new now before after = ⊥
 
--- A line was answered, and then a `roll` that was put in behind it.
-pub record IsRolledBehind (of : Option LeadEnd) (line : List ℕ) (old : ActorView) (was : PipeCaller) (new : ActorView) (now : PipeCaller) (before after : Option (List ℕ)) : Type 0 where
+-- ## Where a `roll` is put in
+-- a line of edits
+abbrev pub is_of_edits : List ℕ → Bool
+is_of_edits line = starts_with (λ a b. a == b) line (codes "log ")
+
+-- a line that begins a segment
+abbrev pub begins_segment : List ℕ → Bool
+begins_segment line = bytes_eq line (codes "takeover") || bytes_eq line (codes "roll")
+
+-- how many bytes the bodies of the open segment take in an acceptance of it, at most, after one line
+-- more: ten for each byte of a line of edits, and a few
+abbrev pub used_after : ℕ → List ℕ → ℕ
+used_after used line = if is_of_edits line then used + 10 * length line + 32 else (if begins_segment line then 0 else used)
+
+-- how many they may be before the next line is taken: with that line they still fit in a line of a
+-- request
+abbrev pub most_used : ℕ
+most_used = 800000
+
+-- so many are few enough, where the process goes on
+abbrev pub IsFew : Option LeadEnd → ℕ → Type 0
+IsFew None used = used ≤ most_used
+IsFew (Some end) used = Unit {0}
+
+-- A line was answered, no `roll` is due behind it, and so many are used now.
+pub record IsAnsweredAlone (of : Option LeadEnd) (used : ℕ) (line : List ℕ) (old : ActorView) (was : PipeCaller) (new : ActorView) (now : PipeCaller) (before after : Option (List ℕ)) (used_now : ℕ) : Type 0 where
+  pub one : IsAnswered of line old was new now before after
+  pub few : IsFew of (used_after used line)
+  pub counted : of ≡ None → used_now ≡ used_after used line
+
+-- A line was answered, a `roll` was due, and was put in behind it.
+pub record IsRolledBehind (of : Option LeadEnd) (used : ℕ) (line : List ℕ) (old : ActorView) (was : PipeCaller) (new : ActorView) (now : PipeCaller) (before after : Option (List ℕ)) (used_now : ℕ) : Type 0 where
   pub actor : ActorView
   pub seats : PipeCaller
   pub told : Option (List ℕ)
   pub first : IsAnsweredAs true line old was actor seats before told
   pub roll : IsAnswered of (codes "roll") actor seats new now told after
+  pub due : most_used < used_after used line
+  pub counted : used_now ≡ 0
 
 -- with such a `roll` or without
-abbrev pub IsAnsweredInTime : Option LeadEnd → List ℕ → ActorView → PipeCaller → ActorView → PipeCaller → Option (List ℕ) → Option (List ℕ) → Type 0
-IsAnsweredInTime of line old was new now before after = IsAnswered of line old was new now before after ⊎ IsRolledBehind of line old was new now before after
+abbrev pub IsAnsweredInTime : Option LeadEnd → ℕ → List ℕ → ActorView → PipeCaller → ActorView → PipeCaller → Option (List ℕ) → Option (List ℕ) → ℕ → Type 0
+IsAnsweredInTime of used line old was new now before after used_now =
+    IsAnsweredAlone of used line old was new now before after used_now ⊎ IsRolledBehind of used line old was new now before after used_now
 
--- the lines of an input, in order, with some lines `roll` put in
-pub data IsWithRolls : List (List ℕ) → List (List ℕ) → Type 0 where
-  no_line : IsWithRolls [] []
-  its_line : (input lines : List (List ℕ)) (line : List ℕ) → IsWithRolls input lines → IsWithRolls (input ++ line ∷ []) (lines ++ line ∷ [])
-  one_roll : (input lines : List (List ℕ)) → IsWithRolls input lines → IsWithRolls input (lines ++ codes "roll" ∷ [])
+-- The lines of an input, in order, with a line `roll` put in just where it is due; and how many bytes
+-- are used after them.
+pub data IsWithRolls : List (List ℕ) → List (List ℕ) → ℕ → Type 0 where
+  no_line : IsWithRolls [] [] 0
+  its_line : (input lines : List (List ℕ)) (used : ℕ) (line : List ℕ) → IsWithRolls input lines used → used ≤ most_used
+      → IsWithRolls (input ++ line ∷ []) (lines ++ line ∷ []) (used_after used line)
+  one_roll : (input lines : List (List ℕ)) (used : ℕ) → IsWithRolls input lines used → most_used < used → IsWithRolls input (lines ++ codes "roll" ∷ []) 0
 
 -- ## How it ended
 -- all that is told of the lines was written
@@ -138,13 +174,15 @@ EndsAt lead_end.ReadFault input rest left = IsLine rest
 EndsAt lead_end.WriteFault input rest left = Unit {0}
 EndsAt lead_end.OutOfMemory input rest left = Unit {0}
 
--- Lines were read, and maybe some bytes after them. With some rolls put in, of each line something
--- came; the actor did the actions of those that were taken, in order, by what it heard; and what
--- was written is what was told of them, or a front of it where a write failed.
+-- Lines were read, and maybe some bytes after them. With a roll put in just where one was due, of
+-- each line something came; the actor did the actions of those that were taken, in order, by what it
+-- heard; and what was written is what was told of them, or a front of it where a write failed.
 pub record HasLed (nodes : ℕ) (begun actor : ActorView) (log : LogView) (given now : Option (List ℕ)) (before after : Option (List ℕ)) (end : LeadEnd) : Type 0 where
   pub input : List (List ℕ)
   pub lines : List (List ℕ)
-  pub put_in : IsWithRolls input lines
+  pub used : ℕ
+  pub put_in : IsWithRolls input lines used
+  pub in_time : tells_all end ≡ true → used ≤ most_used
   pub steps : List Step
   pub rest : List ℕ
   pub read : Consumes given now (lines_text input ++ rest)

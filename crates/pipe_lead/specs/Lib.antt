@@ -2,3 +2,4 @@ pub mod Begun
 pub mod Inputs
 pub mod Leads
 pub mod States
+pub mod Widths

@@ -1,14 +1,15 @@
 //! The input of a name node is taken line by line.
-ghost use Rattle.std.specs.Prelude.{◌≡◌, ◌≢◌, ◌≤◌, true, OnOk, Some, codes, drop, length};
+ghost use Rattle.std.specs.Prelude.{◌≡◌, ◌≢◌, ◌≤◌, true, OnOk, IfNone, Some, codes, drop, length};
 ghost use Rattle.base_outside.specs.Faults.{Rose};
 ghost use Rattle.play_calls.specs.Logs.{new_log};
 ghost use Rattle.play_model.specs.Actions.{kept_by, has_names, IsIdleActor};
 ghost use Rattle.mesh.specs.Makers.{IsOfChores};
+ghost use Rattle.journal_session.specs.Lines.{longest_line};
 ghost use Rattle.pipe_seats.specs.Opened.{came_as, CameAsTheirs};
 ghost use Rattle.pipe_seats.specs.Piped.{AreLater, AreResting};
 ghost use Rattle.pipe_seats.specs.Wires.{pipes_of};
 ghost use Rattle.pipe_lead.specs.Begun.{IsBegun};
-ghost use Rattle.pipe_lead.specs.Leads.{HasLed, Leads, IfLasts, IsAnswered, IsAnsweredInTime, answer_text, end_of};
+ghost use Rattle.pipe_lead.specs.Leads.{HasLed, Leads, IfLasts, IsAnswered, IsAnsweredInTime, answer_text, end_of, most_used, used_after};
 
 use crate::answer::Answer;
 use crate::inputs::take_input;
@@ -78,6 +79,7 @@ fn answer_line<A: StatedActor, S: Source + Drop, K: Sink + Drop, O: Opener<S, K>
     ensures no_write_fault { result ≢ Some LeadEnd.WriteFault → P.faults sink.new ≡ P.faults sink.old }
     ensures handed { result ≢ Some LeadEnd.WriteFault → P.kept_back sink.old ≡ 0 → P.kept_back sink.new ≡ 0 }
     ensures no_read_fault { result ≢ Some LeadEnd.ReadFault }
+    ensures used { room.new.used ≡ room.old.used }
 {
     let from = seats.records().len();
     let Ok(answer) = take_input(alloc, by, seats, line, &mut room.script) else {
@@ -111,6 +113,7 @@ fn put_roll<A: StatedActor, S: Source + Drop, K: Sink + Drop, O: Opener<S, K> + 
     ensures no_write_fault { result ≢ Some LeadEnd.WriteFault → P.faults sink.new ≡ P.faults sink.old }
     ensures handed { result ≢ Some LeadEnd.WriteFault → P.kept_back sink.old ≡ 0 → P.kept_back sink.new ≡ 0 }
     ensures no_read_fault { result ≢ Some LeadEnd.ReadFault }
+    ensures used { room.new.used ≡ 0 }
 {
     room.used = 0;
     answer_line(alloc, by, seats, b"roll", sink, room)
@@ -118,10 +121,13 @@ fn put_roll<A: StatedActor, S: Source + Drop, K: Sink + Drop, O: Opener<S, K> + 
 
 /// How much the text of the open segment's edits has, at most, after this line: an edit's body has
 /// no more than five bytes for each byte of its text, and two digits a byte.
-fn used_after(used: u64, line: &[u8]) -> u64 {
+fn used_after(used: u64, line: &[u8]) -> u64
+    requires few { used ≤ most_used }
+    requires short { length line.now ≤ longest_line }
+    ensures { result ≡ used_after used line.now }
+{
     if line.starts_with(b"log ") {
-        let text = line.len() as u64;
-        used.saturating_add(text.saturating_mul(10).saturating_add(32))
+        used + 10 * (line.len() as u64) + 32
     } else if line == b"takeover".as_slice() || line == b"roll".as_slice() {
         0
     } else {
@@ -148,7 +154,10 @@ fn answer_in_time<
 ) -> Option<LeadEnd>
     requires idle { IsIdleActor seats.old.log.nodes (kept_by (A.seen by.old) seats.old.log) }
     requires names { has_names (A.seen by.old) ≡ true }
-    ensures answered { IsAnsweredInTime result line.now (A.seen by.old) seats.old (A.seen by.new) seats.new (P.taken sink.old) (P.taken sink.new) }
+    requires few { room.old.used ≤ most_used }
+    requires short { length line.now ≤ longest_line }
+    ensures answered { IsAnsweredInTime result room.old.used line.now (A.seen by.old) seats.old (A.seen by.new) seats.new (P.taken sink.old) (P.taken sink.new) room.new.used }
+    ensures few { IfNone result (room.new.used ≤ most_used) }
     ensures write_fault { result ≡ Some LeadEnd.WriteFault → Rose (P.faults sink.old) (P.faults sink.new) }
     ensures no_write_fault { result ≢ Some LeadEnd.WriteFault → P.faults sink.new ≡ P.faults sink.old }
     ensures handed { result ≢ Some LeadEnd.WriteFault → P.kept_back sink.old ≡ 0 → P.kept_back sink.new ≡ 0 }

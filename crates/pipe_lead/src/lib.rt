@@ -4,6 +4,7 @@
 
 mod answer;
 mod inputs;
+mod laws;
 mod lead_end;
 mod lead_state;
 mod leading;
@@ -11,6 +12,7 @@ mod line_text;
 mod results;
 
 pub use answer::Answer;
+pub use laws::edits_fit;
 pub use lead_end::LeadEnd;
 pub use lead_state::{LeadState, StatedActor};
 pub use leading::{lead, lead_lines};

@@ -4,6 +4,7 @@ use Rattle.std.specs.List.{AllByRecursion}
 use Rattle.std.specs.Io.KnownBytes.{Appends, Consumes}
 use Rattle.base_outside.specs.Whole.{TakesFront}
 use Rattle.journal_core.specs.declared.request.Request.{Request}
+use Rattle.journal_core.specs.declared.request.Request.TheVariants as request
 use Rattle.journal_core.specs.declared.reply.Reply.{Reply}
 use Rattle.journal_core.specs.declared.heard.Heard.{Heard}
 use Rattle.journal_core.specs.declared.heard.Heard.TheVariants.{Answer, Silent}
@@ -126,6 +127,13 @@ pub record IsOpenedAgain (old new : PipeView) : Type 0 where
   pub life : new.life ≡ old.life
   pub calls : new.calls ≡ old.calls
   pub opened : new.opened ≡ old.opened ++ record { taken = new.taken; left = new.left } ∷ []
+
+-- a node that came back may join with this request: at a takeover, a roll, or a tail
+abbrev pub may_join : Request → Bool
+may_join request.State = true
+may_join (request.Start head start) = true
+may_join (request.Read from) = true
+may_join _ = false
 
 -- it is as it was, or was opened again
 abbrev pub IsReady : PipeView → PipeView → Type 0

@@ -1,6 +1,6 @@
 //! Pipes that aren't in use are opened again.
-ghost use Rattle.std.specs.Prelude.{◌≤◌, OnOk};
-ghost use Rattle.pipe_seats.specs.Calls.{IsReady};
+ghost use Rattle.std.specs.Prelude.{◌≡◌, ◌≤◌, ◌⊎◌, true, false, OnOk};
+ghost use Rattle.pipe_seats.specs.Calls.{IsReady, may_join};
 ghost use Rattle.pipe_seats.specs.Opened.{came_as, OpensAs};
 
 use crate::line_room::LineRoom;
@@ -18,7 +18,9 @@ pub(crate) struct Dialer<O> {
 }
 
 /// Whether a node that came back may join with this request: at a takeover, a roll, or a tail.
-fn may_join(request: &Request) -> bool {
+fn may_join(request: &Request) -> bool
+    ensures { result ≡ may_join request.now }
+{
     matches!(
         request,
         Request::State | Request::Start { .. } | Request::Read { .. }
@@ -37,6 +39,7 @@ pub(crate) fn make_ready<S: Source + Drop, K: Sink + Drop, O: Opener<S, K>>(
 ) -> Result<(), OutOfMemory>
     requires low { 1 ≤ node }
     ensures ready { OnOk result (IsReady pipe.old pipe.new) }
+    ensures kept { (pipe.old.is_open ≡ true) ⊎ (may_join request.now ≡ false) → pipe.new ≡ pipe.old }
     ensures came { OpensAs (came_as O.are_of S.left K.taken node) pipe.old pipe.new }
 {
     if pipe.is_open() || !may_join(request) {

@@ -29,6 +29,7 @@ pub(crate) fn take_own<S: Source>(
     call: u64,
 ) -> bool
     ensures own { result ≡ true → TakesAfterStale life call reader.new.line (to_come reader.old (S.left source.old)) (to_come reader.new (S.left source.new)) }
+    ensures anew { result ≡ true → reader.new.taken ≡ 0 }
 {
     for _ in 0..u64::MAX {
         let Next::Line = reader.next_line(source) else {

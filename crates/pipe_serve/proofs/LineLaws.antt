@@ -1,9 +1,10 @@
 -- One line of a session.
 use Rattle.std.proofs.Common.{ℕ, ◌≡◌, List, [], Option, Some, None, inl, inr, refl, sym, subst}
-use Rattle.std.specs.Prelude.{take}
+use Rattle.std.specs.Prelude.{take, length, Result, Ok, Err, OnOk}
 use Rattle.std.specs.Io.KnownBytes.{Appends}
 use Rattle.std.proofs.KnownBytes.{Appends-nil}
-use Rattle.base_outside.specs.Faults.{Rose}
+use Rattle.std.proofs.Math.Seq.{take-length}
+use Rattle.base_outside.specs.Faults.{Rose, CountsFaults}
 use Rattle.base_outside.specs.Whole.{TakesFront}
 use Rattle.journal_core.specs.declared.request.Request.{Request}
 use Rattle.journal_core.specs.declared.reply.Reply.{Reply}
@@ -13,24 +14,30 @@ use Rattle.disk_node.specs.Node.{IsNoFault}
 use Rattle.pipe_seats.specs.Tagged.{IsTagged, tagged}
 use Rattle.pipe_serve.specs.declared.session_end.SessionEnd.{SessionEnd}
 use Rattle.pipe_serve.specs.declared.session_end.SessionEnd.TheVariants as session_end
-use Rattle.pipe_serve.specs.Sessions.{SinkUse, reply_line, refusal, IsAsked, IsFaultOf, IsServed}
+use Rattle.pipe_serve.specs.Sessions.{SinkUse, reply_line, refusal, Tells, IsAsked, IsFaultOf, IsServed}
 
--- nothing was written of a text
-pub front_none : (b : Option (List ℕ)) (bytes : List ℕ) → TakesFront b b bytes
-front_none b bytes = (0, Appends-nil b)
+-- nothing is told, and nothing was written
+pub told_none : (b : Option (List ℕ)) (k : ℕ) → Tells [] (record { had = b; has = b; before = k; now = k })
+told_none b k = record { part = []; written = Appends-nil b; said = (0, refl); whole = inl refl }
 
-pub ruleset unsaid = (front_none)
+-- a text was written, or that failed
+pub told_all : {E : Type 0} (r : Result (Unit {0}) E) (bytes : List ℕ) (had has : Option (List ℕ)) (before now : ℕ) → OnOk r (Appends had has bytes) → TakesFront had has bytes
+    → CountsFaults before now r → Tells bytes (record { had = had; has = has; before = before; now = now })
+told_all (Ok done) bytes had has before now all front cause = record { part = bytes; written = all; said = (length bytes, sym (take-length bytes)); whole = inl refl }
+told_all (Err fail) bytes had has before now all front cause = record { part = take front.0 bytes; written = front.1; said = (front.0, refl); whole = inr cause.failed }
+
+pub ruleset unsaid = (told_none, told_all)
 
 module _ {N : Type 0} (Asked : N → Request → Reply → N → Type 0) where
   -- ## It isn't asked
-  pub turned_away : (line : List ℕ) (n : N) (sink : SinkUse) → (IsTagged line → ⊥) → TakesFront sink.had sink.has refusal → IsServed Asked (Some session_end.Over) line n n sink
-  turned_away line n sink none front =
-      record { part = take front.0 refusal; written = front.1; ends = inl (record { no_call = inl none; same = refl; said = (front.0, refl) }) }
+  pub turned_away : (line : List ℕ) (n : N) (sink : SinkUse) → (IsTagged line → ⊥) → Tells refusal sink → IsServed Asked (Some session_end.Over) line n n sink
+  turned_away line n sink none told =
+      record { part = told.part; written = told.written; ends = inl (record { no_call = inl none; same = refl; said = told.said; whole = told.whole }) }
 
-  pub turned_away_text : (line text : List ℕ) (life call rule : ℕ) (n : N) (sink : SinkUse) → line ≡ tagged life call text → reading_of text ≡ Bad rule → TakesFront sink.had sink.has refusal
+  pub turned_away_text : (line text : List ℕ) (life call rule : ℕ) (n : N) (sink : SinkUse) → line ≡ tagged life call text → reading_of text ≡ Bad rule → Tells refusal sink
       → IsServed Asked (Some session_end.Over) line n n sink
-  turned_away_text line text life call rule n sink is bad front =
-      record { part = take front.0 refusal; written = front.1; ends = inl (record { no_call = inr (life, call, text, rule, is, bad); same = refl; said = (front.0, refl) }) }
+  turned_away_text line text life call rule n sink is bad told =
+      record { part = told.part; written = told.written; ends = inl (record { no_call = inr (life, call, text, rule, is, bad); same = refl; said = told.said; whole = told.whole }) }
 
   pub forgotten_unasked : (line : List ℕ) (n : N) (sink : SinkUse) → Appends sink.had sink.has [] → IsServed Asked (Some session_end.OutOfMemory) line n n sink
   forgotten_unasked line n sink none = record { part = []; written = none; ends = record { asked = inl refl; said = refl } }

@@ -1,12 +1,11 @@
 -- A session of tagged lines, call by call.
-use Rattle.std.proofs.Common.{ℕ, zero, suc, ◌≡◌, ◌+◌, ◌-◌, ◌^◌, List, [], ◌∷◌, ◌++◌, length, Option, Some, None, inl, inr, refl, sym, ap, ◌∙◌, subst, arith, append-nil, append_assoc, length-append}
+use Rattle.std.proofs.Common.{ℕ, zero, suc, ◌≡◌, ◌+◌, ◌-◌, ◌^◌, List, [], ◌∷◌, ◌++◌, length, Option, Some, None, inl, inr, refl, sym, ap, ◌∙◌, ◌⊎◌, subst, arith, append-nil, append_assoc, length-append}
 use Rattle.std.specs.List.{flat_map}
 use Rattle.std.specs.Prelude.{take, IfSome}
 use Rattle.std.specs.Io.KnownBytes.{Appends, Consumes, prepend_known}
 use Rattle.std.proofs.KnownBytes.{Appends-nil, Appends-trans, Consumes-trans}
 use Rattle.std.proofs.lemmas.Grind.{flat_map-append}
 use Rattle.base_outside.specs.Faults.{Rose}
-use Rattle.base_outside.specs.Whole.{TakesFront}
 use Rattle.journal_core.specs.declared.request.Request.{Request}
 use Rattle.journal_core.specs.declared.reply.Reply.{Reply}
 use Rattle.journal_session.specs.Reader.{LineReaderView, to_come, IsNextLine}
@@ -14,7 +13,7 @@ use Rattle.journal_session.specs.declared.next.Next.{Next}
 use Rattle.journal_session.specs.declared.next.Next.TheVariants as next
 use Rattle.pipe_serve.specs.declared.session_end.SessionEnd.{SessionEnd}
 use Rattle.pipe_serve.specs.declared.session_end.SessionEnd.TheVariants as session_end
-use Rattle.pipe_serve.specs.Sessions.{Answered, SourceUse, SinkUse, end_of, told_at, asking_line, answering_line, IsAskedWell, AreAsked, EndsWith, IsServed, EndsBy, IsReadBy, IsSession}
+use Rattle.pipe_serve.specs.Sessions.{Answered, SourceUse, SinkUse, end_of, told_at, Tells, IsFront, refusal, asking_line, answering_line, IsAskedWell, AreAsked, EndsWith, IsServed, EndsBy, IsReadBy, IsSession}
 
 -- ## Bytes that a reader holds
 nothing_held : (r : LineReaderView) (given : Option (List ℕ)) → r.held ≡ [] → Consumes given (to_come r given) []
@@ -45,6 +44,9 @@ not_failed next.OutOfMemory e r = absurd (cc e)
 take_none : (n : ℕ) → take {A = ℕ} n [] ≡ []
 take_none zero = refl
 take_none (suc n) = refl
+
+none_said : (part : List ℕ) → IsFront part [] → part ≡ []
+none_said part h = h.1 ∙ take_none h.0
 
 lines_snoc : (f : Answered → List ℕ) (calls : List Answered) (a : Answered) → flat_map f calls ++ f a ≡ flat_map f (calls ++ a ∷ [])
 lines_snoc f calls a = ap (λ (l : List ℕ). flat_map f calls ++ l) (sym (append-nil (f a))) ∙ sym (flat_map-append f calls (a ∷ []))
@@ -145,14 +147,19 @@ module _ {N : Type 0} (Asked : N → Request → Reply → N → Type 0) where
       ends = ends;
     }
 
-    ends_so : (of : Next) → IsNextLine of p.line q p x y → (of ≡ next.ReadFault → Rose f1 f2) → TakesFront b c (told_at of)
+    -- all was told, or a write failed
+    told_since : (part : List ℕ) → (part ≡ refusal) ⊎ Rose k1 k2 → (part ≡ refusal) ⊎ Rose k k2
+    told_since part (inl all) = inl all
+    told_since part (inr rose) = inr (subst (λ (n : ℕ). Rose n k2) h.all_written rose)
+
+    ends_so : (of : Next) → IsNextLine of p.line q p x y → (of ≡ next.ReadFault → Rose f1 f2) → Tells (told_at of) (record { had = b; has = c; before = k1; now = k2 })
         → IfSome (end_of of) (λ end. IsSession Asked end old mid so_read so_written)
     ends_so next.Line line fault w = tt
-    ends_so next.Last line fault w = ended session_end.Over mid p.line (take w.0 []) (all_empty p.line line.2.held line.0.given) w.1
-        (inl (record { one = line.0.one; cause = inl line.2.end; same = refl; said = take_none w.0 }))
-    ends_so next.End line fault w = ended session_end.Over mid [] (take w.0 []) (all_empty [] line.1.held line.0.given) w.1
-        (inl (record { one = tt; cause = inl line.1.end; same = refl; said = take_none w.0 }))
-    ends_so next.LongLine line fault w = ended session_end.Over mid p.held (take w.0 (told_at next.LongLine)) (all_of [] line.0.given) w.1
+    ends_so next.Last line fault w = ended session_end.Over mid p.line w.part (all_empty p.line line.2.held line.0.given) w.written
+        (inl (record { one = line.0.one; cause = inl line.2.end; same = refl; said = none_said w.part w.said }))
+    ends_so next.End line fault w = ended session_end.Over mid [] w.part (all_empty [] line.1.held line.0.given) w.written
+        (inl (record { one = tt; cause = inl line.1.end; same = refl; said = none_said w.part w.said }))
+    ends_so next.LongLine line fault w = ended session_end.Over mid p.held w.part (all_of [] line.0.given) w.written
         (inr (inl (record {
           front = line.1.front;
           behind = line.1.behind;
@@ -160,7 +167,8 @@ module _ {N : Type 0} (Asked : N → Request → Reply → N → Type 0) where
           one = line.1.one;
           long = line.1.long;
           same = refl;
-          said = (w.0, refl);
+          said = w.said;
+          whole = told_since w.part w.whole;
         })))
     ends_so next.LongInput line fault w =
         let taken = line.0.taken in
@@ -168,18 +176,23 @@ module _ {N : Type 0} (Asked : N → Request → Reply → N → Type 0) where
         let all = line.0.all in
         let short = line.1.short in
         absurd (omega (arith, taken, fresh, all, short))
-    ends_so next.ReadFault line fault w = ended session_end.Over mid p.held (take w.0 []) (all_of [] line.0.given) w.1
-        (inl (record { one = line.1.one; cause = inr (subst (λ (n : ℕ). Rose n f2) h.all_read (fault refl)); same = refl; said = take_none w.0 }))
-    ends_so next.OutOfMemory line fault w = ended session_end.OutOfMemory mid [] (take w.0 []) tt w.1 (record { asked = inl refl; said = take_none w.0 })
+    ends_so next.ReadFault line fault w = ended session_end.Over mid p.held w.part (all_of [] line.0.given) w.written
+        (inl (record { one = line.1.one; cause = inr (subst (λ (n : ℕ). Rose n f2) h.all_read (fault refl)); same = refl; said = none_said w.part w.said }))
+    ends_so next.OutOfMemory line fault w = ended session_end.OutOfMemory mid [] w.part tt w.written (record { asked = inl refl; said = none_said w.part w.said })
 
     -- where no next line comes
-    pub session_ends : (of : Next) (end : SessionEnd) → Some end ≡ end_of of → IsNextLine of p.line q p x y → (of ≡ next.ReadFault → Rose f1 f2) → TakesFront b c (told_at of)
-        → IsSession Asked end old mid so_read so_written
+    pub session_ends : (of : Next) (end : SessionEnd) → Some end ≡ end_of of → IsNextLine of p.line q p x y → (of ≡ next.ReadFault → Rose f1 f2)
+        → Tells (told_at of) (record { had = b; has = c; before = k1; now = k2 }) → IsSession Asked end old mid so_read so_written
     session_ends of end is line fault w = subst (λ (o : Option SessionEnd). IfSome o (λ end. IsSession Asked end old mid so_read so_written)) (sym is) (ends_so of line fault w)
 
     ends_by : (end : SessionEnd) (line : List ℕ) (new : N) (part : List ℕ) → EndsWith Asked end line mid new part (record { had = b; has = c; before = k1; now = k2 })
         → EndsBy Asked end h.calls (line ++ 10 ∷ p.held) mid new part so_read so_written
-    ends_by session_end.Over line new part (inl e) = inr (inr (inl (record { line = line; behind = p.held; is = refl; ends = inl e })))
+    ends_by session_end.Over line new part (inl e) = inr (inr (inl (record {
+      line = line;
+      behind = p.held;
+      is = refl;
+      ends = inl (record { no_call = e.no_call; same = e.same; said = e.said; whole = told_since part e.whole });
+    })))
     ends_by session_end.Over line new part (inr e) = inr (inr (inl (record {
       line = line;
       behind = p.held;

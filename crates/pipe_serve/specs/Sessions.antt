@@ -101,15 +101,23 @@ pub record IsServedWell {N : Type 0} (Asked : N → Request → Reply → N → 
 abbrev pub IsFront : List ℕ → List ℕ → Type 0
 IsFront part bytes = (n : ℕ) × (part ≡ take n bytes)
 
+-- These bytes were written; or a front of them, and then the write failed.
+pub record Tells (bytes : List ℕ) (sink : SinkUse) : Type 0 where
+  pub part : List ℕ
+  pub written : Appends sink.had sink.has part
+  pub said : IsFront part bytes
+  pub whole : (part ≡ bytes) ⊎ Rose sink.before sink.now
+
 -- no call: no tagged line, or no request's text
 abbrev pub IsNoCall : List ℕ → Type 0
 IsNoCall line = (IsTagged line → ⊥) ⊎ ((life call : ℕ) × (text : List ℕ) × (rule : ℕ) × (line ≡ tagged life call text) × (reading_of text ≡ Bad rule))
 
--- it is no call, and this was written of what tells the client
-pub record IsTurnedAway {N : Type 0} (line : List ℕ) (old new : N) (part : List ℕ) : Type 0 where
+-- it is no call, and this was written of what tells the client: all, or the write failed
+pub record IsTurnedAway {N : Type 0} (line : List ℕ) (old new : N) (part : List ℕ) (sink : SinkUse) : Type 0 where
   pub no_call : IsNoCall line
   pub same : new ≡ old
   pub said : IsFront part refusal
+  pub whole : (part ≡ refusal) ⊎ Rose sink.before sink.now
 
 -- it was asked, and the write of its answer's line failed
 pub record IsUnwritten {N : Type 0} (Asked : N → Request → Reply → N → Type 0) (line : List ℕ) (old new : N) (part : List ℕ) (sink : SinkUse) : Type 0 where
@@ -135,7 +143,7 @@ pub record IsForgotten {N : Type 0} (Asked : N → Request → Reply → N → T
 
 -- how a session ends with a line, of which this part of an answer was written
 abbrev pub EndsWith : {N : Type 0} → (N → Request → Reply → N → Type 0) → SessionEnd → List ℕ → N → N → List ℕ → SinkUse → Type 0
-EndsWith Asked session_end.Over line old new part sink = IsTurnedAway line old new part ⊎ IsUnwritten Asked line old new part sink
+EndsWith Asked session_end.Over line old new part sink = IsTurnedAway line old new part sink ⊎ IsUnwritten Asked line old new part sink
 EndsWith Asked session_end.DiskFault line old new part sink = IsFaulted Asked line old new part
 EndsWith Asked session_end.OutOfMemory line old new part sink = IsForgotten Asked old new part
 
@@ -177,8 +185,8 @@ pub record IsCutOff {N : Type 0} (rest : List ℕ) (old new : N) (part : List �
   pub same : new ≡ old
   pub said : part ≡ []
 
--- the next line is too long, and this was written of what tells the client
-pub record IsTooLong {N : Type 0} (rest : List ℕ) (old new : N) (part : List ℕ) : Type 0 where
+-- the next line is too long, and this was written of what tells the client: all, or the write failed
+pub record IsTooLong {N : Type 0} (rest : List ℕ) (old new : N) (part : List ℕ) (sink : SinkUse) : Type 0 where
   pub front : List ℕ
   pub behind : List ℕ
   pub spelled : rest ≡ front ++ behind
@@ -186,6 +194,7 @@ pub record IsTooLong {N : Type 0} (rest : List ℕ) (old new : N) (part : List �
   pub long : longest_line < length front
   pub same : new ≡ old
   pub said : IsFront part refusal
+  pub whole : (part ≡ refusal) ⊎ Rose sink.before sink.now
 
 -- the next line ends it
 pub record EndsAtLine {N : Type 0} (Asked : N → Request → Reply → N → Type 0) (end : SessionEnd) (rest : List ℕ) (old new : N) (part : List ℕ) (sink : SinkUse) : Type 0 where
@@ -204,7 +213,7 @@ pub record IsCountedOut {N : Type 0} (calls : List Answered) (old new : N) (part
 -- now, and what was written of one more answer.
 abbrev pub EndsBy : {N : Type 0} → (N → Request → Reply → N → Type 0) → SessionEnd → List Answered → List ℕ → N → N → List ℕ → SourceUse → SinkUse → Type 0
 EndsBy Asked session_end.Over calls rest old new part source sink =
-    IsCutOff rest old new part source ⊎ IsTooLong rest old new part ⊎ EndsAtLine Asked session_end.Over rest old new part sink ⊎ IsCountedOut calls old new part
+    IsCutOff rest old new part source ⊎ IsTooLong rest old new part sink ⊎ EndsAtLine Asked session_end.Over rest old new part sink ⊎ IsCountedOut calls old new part
 EndsBy Asked session_end.DiskFault calls rest old new part source sink = EndsAtLine Asked session_end.DiskFault rest old new part sink
 EndsBy Asked session_end.OutOfMemory calls rest old new part source sink = IsForgotten Asked old new part
 

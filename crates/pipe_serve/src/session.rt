@@ -1,10 +1,9 @@
 //! A session of tagged lines at a node.
 ghost use Rattle.std.specs.Prelude.{◌≡◌, OnOk, MatchOption, IfNone};
-ghost use Rattle.base_outside.specs.Whole.{TakesFront};
 ghost use Rattle.disk_node.specs.Node.{IsNoFault};
 ghost use Rattle.journal_text.specs.Reading.{reading_of};
 ghost use Rattle.pipe_seats.specs.Tagged.{tagged};
-ghost use Rattle.pipe_serve.specs.Sessions.{IsFaultOf, IsServed, IsSession, end_of, read_from, refusal, reply_line, told_at, written_to};
+ghost use Rattle.pipe_serve.specs.Sessions.{IsFaultOf, IsServed, IsSession, Tells, end_of, read_from, refusal, reply_line, told_at, written_to};
 
 use crate::session_end::SessionEnd;
 use base_outside::{Sink, Source, write_all};
@@ -76,8 +75,9 @@ fn serve_request<N: SessionNode, K: Sink>(
 }
 
 /// Lets a client know that the reply for which it may wait doesn't come.
+#[tactic(auto, using(crate::proofs::LineLaws::unsaid))]
 fn turn_away<K: Sink>(sink: &mut K)
-    ensures { TakesFront (K.taken sink.old) (K.taken sink.new) refusal }
+    ensures { Tells refusal (written_to K.taken K.faults sink.old sink.new) }
 {
     let _ = write_all(sink, REFUSAL);
 }
@@ -112,7 +112,7 @@ fn serve_line<N: SessionNode, K: Sink>(
 #[tactic(auto, using(crate::proofs::LineLaws::unsaid))]
 fn end_at<K: Sink>(next: Next, sink: &mut K) -> Option<SessionEnd>
     ensures end { result ≡ end_of next }
-    ensures front { TakesFront (K.taken sink.old) (K.taken sink.new) (told_at next) }
+    ensures front { Tells (told_at next) (written_to K.taken K.faults sink.old sink.new) }
     ensures line { IfNone result (next ≡ Next.Line) }
     ensures still { IfNone result (sink.new ≡ sink.old) }
 {

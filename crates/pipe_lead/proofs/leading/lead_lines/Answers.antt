@@ -11,7 +11,7 @@ returns-in-Some-clause-led g c =
     let is : end_of c.next_line.result ≡ Some c.in-Some.end = cc (c.in-Some.ensures, c.in-Some.is, c.end_at.ensures) in
     lines_end c.next_line.result c.in-Some.end c.next_line.new.self.line (g.A.Actor.seen c.args.by.now) (g.A.Actor.seen c.loop.by) c.args.seats.now c.loop.seats c.loop.reader c.next_line.new.self
     (g.I.Source.left c.args.source.now) (g.I.Source.left c.loop.source) (g.I.Source.left c.next_line.new.source) (g.P.Sink.taken c.args.sink.now) (g.P.Sink.taken c.loop.sink)
-    c.loop.counter c.loop.invariant.so_far c.loop.invariant.anew c.next_line.ensures.next is
+    c.loop.counter c.loop.room.used c.loop.invariant.so_far c.loop.invariant.few c.loop.invariant.anew c.next_line.ensures.next is
 
 pub returns-in-Some-clause-later : goal.returns-in-Some-clause-later
 returns-in-Some-clause-later g c = later_at c.in-Some.end c.args.seats.now c.loop.seats c.loop.invariant.so_far.later
@@ -27,19 +27,19 @@ returns-in-Some-answer_in_time-clause-led g c =
     lines_cut c.next_line.result c.in-Some-answer_in_time.end c.line.result.now (g.A.Actor.seen c.args.by.now) (g.A.Actor.seen c.loop.by) (g.A.Actor.seen c.answer_in_time.new.by)
     c.args.seats.now c.loop.seats c.answer_in_time.new.seats c.loop.reader c.next_line.new.self
     (g.I.Source.left c.args.source.now) (g.I.Source.left c.loop.source) (g.I.Source.left c.next_line.new.source)
-    (g.P.Sink.taken c.args.sink.now) (g.P.Sink.taken c.loop.sink) (g.P.Sink.taken c.answer_in_time.new.sink) c.loop.counter c.loop.invariant.so_far c.next_line.ensures.next came line
+    (g.P.Sink.taken c.args.sink.now) (g.P.Sink.taken c.loop.sink) (g.P.Sink.taken c.answer_in_time.new.sink) c.loop.counter c.loop.room.used _ c.loop.invariant.so_far c.loop.invariant.few c.next_line.ensures.next came line
     c.in-Some-answer_in_time.ensures.answered
 
 pub returns-in-Some-answer_in_time-clause-later : goal.returns-in-Some-answer_in_time-clause-later
 returns-in-Some-answer_in_time-clause-later g c =
     lines_cut_later c.in-Some-answer_in_time.end c.line.result.now (g.A.Actor.seen c.args.by.now) (g.A.Actor.seen c.loop.by) (g.A.Actor.seen c.answer_in_time.new.by) c.args.seats.now c.loop.seats
-    c.answer_in_time.new.seats _ _ _ (g.P.Sink.taken c.loop.sink) (g.P.Sink.taken c.answer_in_time.new.sink) c.loop.counter c.loop.invariant.so_far
+    c.answer_in_time.new.seats _ _ _ (g.P.Sink.taken c.loop.sink) (g.P.Sink.taken c.answer_in_time.new.sink) c.loop.counter c.loop.room.used _ c.loop.invariant.so_far
     c.in-Some-answer_in_time.ensures.answered
 
 pub returns-in-Some-answer_in_time-clause-resting : goal.returns-in-Some-answer_in_time-clause-resting
 returns-in-Some-answer_in_time-clause-resting g c =
     lines_cut_rest c.in-Some-answer_in_time.end c.line.result.now (g.A.Actor.seen c.loop.by) (g.A.Actor.seen c.answer_in_time.new.by) c.args.seats.now c.loop.seats
-    c.answer_in_time.new.seats (g.P.Sink.taken c.loop.sink) (g.P.Sink.taken c.answer_in_time.new.sink) c.in-Some-answer_in_time.ensures.answered
+    c.answer_in_time.new.seats (g.P.Sink.taken c.loop.sink) (g.P.Sink.taken c.answer_in_time.new.sink) c.loop.room.used _ c.in-Some-answer_in_time.ensures.answered
 
 pub returns-in-Some-answer_in_time-clause-no_write_fault : goal.returns-in-Some-answer_in_time-clause-no_write_fault
 returns-in-Some-answer_in_time-clause-no_write_fault g c = λ n. c.in-Some-answer_in_time.ensures.no_write_fault (λ e. n (cc e)) ∙ c.loop.invariant.wrote
@@ -56,7 +56,9 @@ loop-preserved g c =
       so_far = lines_next c.next_line.result c.line.result.now (g.A.Actor.seen c.args.by.now) (g.A.Actor.seen c.loop.by) (g.A.Actor.seen c.answer_in_time.new.by) c.args.seats.now c.loop.seats
           c.answer_in_time.new.seats c.loop.reader c.next_line.new.self c.count_anew.new.self (g.I.Source.left c.args.source.now) (g.I.Source.left c.loop.source)
           (g.I.Source.left c.next_line.new.source) (g.P.Sink.taken c.args.sink.now) (g.P.Sink.taken c.loop.sink) (g.P.Sink.taken c.answer_in_time.new.sink) c.loop.counter
-          c.loop.invariant.so_far c.next_line.ensures.next came c.count_anew.ensures.held line c.in_default-answer_in_time.ensures.answered;
+          c.loop.room.used c.answer_in_time.new.room.used c.loop.invariant.so_far c.loop.invariant.few c.next_line.ensures.next came c.count_anew.ensures.held line
+          c.in_default-answer_in_time.ensures.answered;
+      few = c.in_default-answer_in_time.ensures.few;
       anew = c.count_anew.ensures.taken;
       read = c.next_line.ensures.no_fault (line_read c.next_line.result came) ∙ c.loop.invariant.read;
       wrote = c.in_default-answer_in_time.ensures.no_write_fault (λ e. cc e) ∙ c.loop.invariant.wrote;
@@ -67,7 +69,7 @@ loop-preserved g c =
 pub returns-clause-led : goal.returns-clause-led
 returns-clause-led g c =
     lines_out (g.A.Actor.seen c.args.by.now) (g.A.Actor.seen c.loop.by) c.args.seats.now c.loop.seats c.loop.reader (g.I.Source.left c.args.source.now) (g.I.Source.left c.loop.source)
-    (g.P.Sink.taken c.args.sink.now) (g.P.Sink.taken c.loop.sink) c.loop.counter c.loop.invariant.so_far (omega (arith, c.loop-test.false))
+    (g.P.Sink.taken c.args.sink.now) (g.P.Sink.taken c.loop.sink) c.loop.counter c.loop.room.used c.loop.invariant.so_far c.loop.invariant.few (omega (arith, c.loop-test.false))
 
 pub returns-clause-later : goal.returns-clause-later
 returns-clause-later g c = pipes_go c.args.seats.now c.loop.seats c.loop.invariant.so_far.later
