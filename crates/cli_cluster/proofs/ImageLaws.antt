@@ -80,9 +80,9 @@ begins nodes images s v e =
 pub begins_as : (nodes : ℕ) (files : Files) (images : List Image) (s : StandbyView) (v : ActorView) → v ≡ begun_actor nodes images s → StandsAtNewest files s images → BeginsAs nodes files v
 begins_as nodes files images s v e h = record { images = images; standby = s; is = e; stands = h }
 
-pub has_folder : {D : Type 0} (disk : Ghosts D) (old new : D) (actor : ActorView) (v : FolderView D) → Stays disk old new → v ≡ record { actor = actor; disk = Some new; failed = false }
-    → HasFolder disk old v
-has_folder disk old new actor v stays e = record { now = new; is = ap (λ x. x.disk) e; stays = stays; well = ap (λ x. x.failed) e }
+pub has_folder : {D : Type 0} (disk : Ghosts D) (old new : D) (actor : ActorView) (v : FolderView D) → Stays disk old new → disk.faults new ≡ disk.faults old
+    → v ≡ record { actor = actor; disk = Some new; failed = false } → HasFolder disk old v
+has_folder disk old new actor v stays fine e = record { now = new; is = ap (λ x. x.disk) e; stays = stays; no_fault = fine; well = ap (λ x. x.failed) e }
 
 pub ruleset starts = (stays_same, stays_on, stays_of, at_image, second_of, second_or_none, starts_one, starts_two, at_newest, at_nothing, begins, begins_as, has_folder)
 

@@ -4,3 +4,4 @@ pub mod StartLaws
 pub mod ServeLaws
 pub mod LeadLaws
 pub mod StateLaws
+pub mod CauseLaws

@@ -1,20 +1,24 @@
 -- The images of a name node's folder.
-use Rattle.std.specs.Prelude.{ℕ, ◌≡◌, ◌⊎◌, List, [], Option, Some, None, Result, Ok, Err, OnOk, Bool, true, false}
+use Rattle.std.specs.Prelude.{ℕ, ◌≡◌, ◌≢◌, ◌^◌, ◌⊎◌, min, List, [], Option, Some, None, Result, Ok, Err, OnOk, Bool, true, false}
 use Rattle.std.specs.declared.alloc.AllocError.{AllocError}
 use Rattle.base_disk.specs.Files.{Files}
 use Rattle.base_disk.specs.View.{View}
-use Rattle.base_disk.specs.Calls.{Rests}
+use Rattle.base_disk.specs.Calls.{Rests, Rose}
 use Rattle.base_disk.specs.DiskCalls.{IsDiskRun, IfTold}
 use Rattle.base_disk.specs.declared.disk.DiskFail.{DiskFail}
 use Rattle.base_disk.specs.declared.disk.DiskFail.TheVariants as fail
 use Rattle.base_disk.specs.declared.disk.DiskModel.{Ghosts}
 use Rattle.ns_edits.specs.Replay.{Image}
+use Rattle.ns_store.specs.Names.{name_of, Itself}
 use Rattle.ns_store.specs.Images.{ListsImages}
 use Rattle.ns_store.specs.Lists.{second_newest}
 use Rattle.ns_store.specs.Answers.{IsNewest}
 use Rattle.ns_store.specs.Loads.{IsAnswer}
+use Rattle.ns_store.specs.declared.loaded.Loaded.{Loaded}
 use Rattle.ns_store.specs.declared.loaded.Loaded.TheVariants as loading
 use Rattle.ns_store.specs.declared.newest_answer.Newest.TheVariants as newest
+use Rattle.cli_commands.specs.declared.command_fault.CommandFault.{CommandFault}
+use Rattle.cli_commands.specs.declared.command_fault.CommandFault.TheVariants as fault
 use Rattle.play_script.specs.declared.script_line.ScriptLine.{ScriptLine}
 use Rattle.play_script.specs.declared.script_line.ScriptLine.TheVariants as line
 use Rattle.play_standby.specs.Standbys.{StandbyView, empty_standby}
@@ -84,7 +88,51 @@ pub record HasFolder {D : Type 0} (disk : Ghosts D) (old : D) (v : FolderView D)
   pub now : D
   pub is : v.disk ≡ Some now
   pub stays : Stays disk old now
+  pub no_fault : disk.faults now ≡ disk.faults old
   pub well : v.failed ≡ false
+
+-- ## Why it doesn't begin
+-- A fault of the disk is told where the disk failed, and only there.
+pub record TellsFaults {D T : Type 0} (disk : Ghosts D) (old new : D) (result : Result T CommandFault) : Type 0 where
+  pub failed : result ≡ Err fault.DiskFault → Rose (disk.faults old) (disk.faults new)
+  pub no_fault : result ≢ Err fault.DiskFault → disk.faults new ≡ disk.faults old
+
+-- that the image's file is bad, unless memory is wanted
+abbrev pub NamesImage : ℕ → CommandFault → Type 0
+NamesImage txid (fault.BadFile name) = name ≡ name_of (min txid (2 ^ 62)) Itself
+NamesImage txid fault.OutOfMemory = Unit {0}
+NamesImage txid _ = ⊥
+
+-- it isn't an image of this txid
+abbrev pub IsOther : ℕ → Loaded → Type 0
+IsOther txid (loading.Image space told) = told ≢ txid
+IsOther txid loading.NoImage = Unit {0}
+IsOther txid (loading.DigestDiffers stored computed) = Unit {0}
+IsOther txid (loading.BadImage place cause) = Unit {0}
+
+-- what is loaded of this txid is no image of it: that is damaged, or tells another one
+pub record IsBadImage (files : Files) (txid : ℕ) : Type 0 where
+  pub found : Loaded
+  pub loaded : IsAnswer files txid found
+  pub other : IsOther txid found
+
+-- it is a bad image for which nothing begins, and it is told by its name; or the disk failed, or
+-- memory ran out. `Of` says which images may be told.
+abbrev pub FailsFor : {D : Type 0} → Ghosts D → D → (Files → ℕ → Type 0) → CommandFault → Type 0
+FailsFor disk old Of (fault.BadFile name) = (txid : ℕ) × NamesImage txid (fault.BadFile name) × (disk.tells old → Of (disk.view old).seen txid × IsBadImage (disk.view old).seen txid)
+FailsFor disk old Of fault.DiskFault = Unit {0}
+FailsFor disk old Of fault.OutOfMemory = Unit {0}
+FailsFor disk old Of _ = ⊥
+
+-- one of the two newest that count
+abbrev pub IsOfTwoNewest : Files → ℕ → Type 0
+IsOfTwoNewest files txid = IsNewest files (newest.Image txid) ⊎ IsSecond files txid
+
+-- A start that failed: the disk was called, and failed if that is told.
+pub record FailsToBegin {D : Type 0} (disk : Ghosts D) (old : D) (of : CommandFault) : Type 0 where
+  pub now : D
+  pub cause : TellsFaults {T = Unit {0}} disk old now (Err of)
+  pub why : FailsFor disk old IsOfTwoNewest of
 
 -- ## A checkpoint
 -- it was a standby here, and its namespace was saved as an image at its position

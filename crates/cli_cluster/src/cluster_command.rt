@@ -1,6 +1,7 @@
 //! The commands of a cluster, read from the words.
-ghost use Rattle.std.specs.Prelude.{◌≡◌, ◌≤◌, ◌∷◌, [], false, Some, MatchOption, MatchResult, decimal};
-ghost use Rattle.cli_cluster.specs.Words.{asks_cluster, cluster_words, cluster_usage_of, after_counted, behind_number, folder_words, IsInCluster, AsksCluster};
+ghost use Rattle.std.specs.Prelude.{◌≡◌, ◌∷◌, [], false, Some, codes, IfOk, MatchOption, MatchResult};
+ghost use Rattle.journal_core.specs.Nodes.{most_nodes};
+ghost use Rattle.cli_cluster.specs.Words.{asks_cluster, cluster_usage_of, after_counted, behind_clients, behind_nodes, behind_folder, folder_words, node_words, most_clients, AsksCluster, IsWithinTime};
 ghost use Rattle.cli_commands.specs.Usage.{bytes_of};
 
 use base_words::number_of;
@@ -9,13 +10,28 @@ use journal_core::MOST_NODES;
 /// The most clients of a node.
 const MOST_CLIENTS: u64 = 64;
 
-/// The folder of the pipes of a cluster.
+/// The most seconds for which a name node waits for the replies of a round.
+const MOST_SECONDS: u64 = 3600;
+
+/// The folder of the pipes of a node's clients.
 #[derive(Clone, Copy)]
 pub enum PipeFolder<'a> {
     /// The one that the command has where none is said.
     Usual,
     /// One of this name.
     Named { name: &'a str },
+}
+
+/// The folder of the pipes to nodes, and for how many seconds the replies of a round are waited for:
+/// so many as is usual, where that isn't said.
+#[derive(Clone, Copy)]
+pub enum NodeFolder<'a> {
+    /// The one that the command has where none is said.
+    Usual,
+    /// One of this name.
+    Named { name: &'a str },
+    /// One of this name, and so many seconds.
+    Timed { name: &'a str, seconds: u64 },
 }
 
 /// What the program is asked to do in a cluster.
@@ -29,13 +45,14 @@ pub enum ClusterCommand<'a> {
     /// To be a name node over so many nodes, over named pipes of this folder.
     Lead {
         nodes: u64,
-        folder: PipeFolder<'a>,
+        folder: NodeFolder<'a>,
     },
 }
 
-/// The folder that the words behind a number name; or the place of the first wrong word.
-fn read_folder(words: &[String]) -> Result<PipeFolder<'_>, u64>
-    ensures { MatchResult result (λ f. bytes_of words.now ≡ folder_words f) (λ place. behind_number (bytes_of words.now) ≡ Some place) }
+/// The folder of clients' pipes that the words behind their number say; or the place of the first
+/// wrong word.
+fn read_clients(words: &[String]) -> Result<PipeFolder<'_>, u64>
+    ensures { MatchResult result (λ f. bytes_of words.now ≡ folder_words f) (λ place. behind_clients (bytes_of words.now) ≡ Some place) }
 {
     let Some((name, others)) = words.split_first() else {
         return Ok(PipeFolder::Usual);
@@ -49,20 +66,60 @@ fn read_folder(words: &[String]) -> Result<PipeFolder<'_>, u64>
     }
 }
 
-/// The number from 1 to `most` that stands here, and the folder behind it; or the place of the first
-/// wrong word.
-#[tactic(auto, using(crate::proofs::WordLaws::numbers), unfolding(crate::specs::Words::after_counted))]
-fn read_counted(words: &[String], most: u64) -> Result<(u64, PipeFolder<'_>), u64>
-    ensures { MatchResult result (λ n. (bytes_of words.now ≡ decimal n.0 ∷ folder_words n.1) × (1 ≤ n.0) × (n.0 ≤ most)) (λ place. after_counted most (bytes_of words.now) ≡ Some place) }
+/// The folder of nodes' pipes, and the time, that the words behind their number say; or the place of
+/// the first wrong word.
+#[tactic(auto, using(crate::proofs::WordLaws::times), unfolding(crate::specs::Words::behind_folder))]
+fn read_nodes(words: &[String]) -> Result<NodeFolder<'_>, u64>
+    ensures said { MatchResult result (λ f. bytes_of words.now ≡ node_words f) (λ place. behind_nodes (bytes_of words.now) ≡ Some place) }
+    ensures within { IfOk result (λ f. IsWithinTime f) }
+{
+    let Some((name, others)) = words.split_first() else {
+        return Ok(NodeFolder::Usual);
+    };
+    let name = name.as_str();
+    let Some((word, behind)) = others.split_first() else {
+        return Ok(NodeFolder::Named { name });
+    };
+    let Some(seconds) = number_of(word.as_bytes(), 1, MOST_SECONDS) else {
+        return Err(3);
+    };
+    if behind.is_empty() {
+        Ok(NodeFolder::Timed { name, seconds })
+    } else {
+        Err(4)
+    }
+}
+
+/// The command that the words behind `serve` ask for; or the place of the first wrong word.
+#[tactic(auto, using(crate::proofs::WordLaws::served), unfolding(crate::specs::Words::after_counted))]
+fn read_serve(words: &[String]) -> Result<ClusterCommand<'_>, u64>
+    ensures { MatchResult result (AsksCluster (codes "serve" ∷ bytes_of words.now)) (λ place. after_counted most_clients behind_clients (bytes_of words.now) ≡ Some place) }
 {
     let Some((word, others)) = words.split_first() else {
         return Err(1);
     };
-    let Some(number) = number_of(word.as_bytes(), 1, most) else {
+    let Some(clients) = number_of(word.as_bytes(), 1, MOST_CLIENTS) else {
         return Err(1);
     };
-    match read_folder(others) {
-        Ok(folder) => Ok((number, folder)),
+    match read_clients(others) {
+        Ok(folder) => Ok(ClusterCommand::Serve { clients, folder }),
+        Err(place) => Err(place),
+    }
+}
+
+/// The command that the words behind `lead` ask for; or the place of the first wrong word.
+#[tactic(auto, using(crate::proofs::WordLaws::leads), unfolding(crate::specs::Words::after_counted))]
+fn read_lead(words: &[String]) -> Result<ClusterCommand<'_>, u64>
+    ensures { MatchResult result (AsksCluster (codes "lead" ∷ bytes_of words.now)) (λ place. after_counted most_nodes behind_nodes (bytes_of words.now) ≡ Some place) }
+{
+    let Some((word, others)) = words.split_first() else {
+        return Err(1);
+    };
+    let Some(nodes) = number_of(word.as_bytes(), 1, MOST_NODES) else {
+        return Err(1);
+    };
+    match read_nodes(others) {
+        Ok(folder) => Ok(ClusterCommand::Lead { nodes, folder }),
         Err(place) => Err(place),
     }
 }
@@ -79,16 +136,10 @@ pub fn read_cluster_command(words: &[String]) -> Option<Result<ClusterCommand<'_
         return None;
     };
     if first.as_str() == "serve" {
-        return Some(match read_counted(others, MOST_CLIENTS) {
-            Ok((clients, folder)) => Ok(ClusterCommand::Serve { clients, folder }),
-            Err(place) => Err(place),
-        });
+        return Some(read_serve(others));
     }
     if first.as_str() == "lead" {
-        return Some(match read_counted(others, MOST_NODES) {
-            Ok((nodes, folder)) => Ok(ClusterCommand::Lead { nodes, folder }),
-            Err(place) => Err(place),
-        });
+        return Some(read_lead(others));
     }
     None
 }

@@ -1,7 +1,7 @@
 //! A name node begins from the images of its folder.
-ghost use Rattle.std.specs.Prelude.{◌≡◌, ◌≤◌, IfOk};
+ghost use Rattle.std.specs.Prelude.{◌≡◌, ◌≤◌, ◌⊎◌, IfOk, IfErr};
 ghost use Rattle.ns_store.specs.Answers.{IsNewest};
-ghost use Rattle.cli_cluster.specs.Images.{Stays, IsAtImage, TellsNewest, TellsSecond, StartsAt, BeginsAs, StandsAtNewest, HasFolder};
+ghost use Rattle.cli_cluster.specs.Images.{Stays, IsAtImage, TellsNewest, TellsSecond, StartsAt, BeginsAs, StandsAtNewest, HasFolder, TellsFaults, NamesImage, FailsFor, IsOfTwoNewest, FailsToBegin};
 ghost use Rattle.pipe_lead.specs.Begun.{IsBegun};
 
 use crate::folder_actor::FolderActor;
@@ -41,7 +41,9 @@ impl Start {
 }
 
 /// The fault of an image of this txid whose files don't tell one.
-fn bad_image(alloc: Global, txid: u64) -> CommandFault {
+fn bad_image(alloc: Global, txid: u64) -> CommandFault
+    ensures { NamesImage txid result }
+{
     let names = ImageNames::new(txid.min(MAX));
     match Name::from_slice(alloc, names.itself().as_bytes()) {
         Ok(name) => CommandFault::BadFile(name),
@@ -51,10 +53,12 @@ fn bad_image(alloc: Global, txid: u64) -> CommandFault {
 
 /// The namespace of the image of this txid, as a standby that stands there. `BadFile`: the image is
 /// damaged, or its bytes tell another txid.
-#[tactic(auto, using(crate::proofs::ImageLaws::starts))]
+#[tactic(auto, using(crate::proofs::ImageLaws::starts, crate::proofs::CauseLaws::told, crate::proofs::CauseLaws::bad))]
 fn standby_at<D: Disk>(alloc: Global, disk: &mut D, txid: u64) -> Result<Standby, CommandFault>
     ensures stays { Stays D.DiskModel disk.old disk.new }
     ensures at { D.tells disk.old → IfOk result (IsAtImage (D.view disk.old).seen txid) }
+    ensures cause { TellsFaults D.DiskModel disk.old disk.new result }
+    ensures fails { IfErr result (FailsFor D.DiskModel disk.old (λ _ of. of ≡ txid)) }
 {
     match load(alloc, disk, txid) {
         Ok(
@@ -78,10 +82,12 @@ fn standby_at<D: Disk>(alloc: Global, disk: &mut D, txid: u64) -> Result<Standby
 }
 
 /// The txid of the one before the newest image, or that of the newest where it is the only one.
-#[tactic(auto, using(crate::proofs::ImageLaws::starts))]
+#[tactic(auto, using(crate::proofs::ImageLaws::starts, crate::proofs::CauseLaws::told))]
 fn older_than<D: Disk>(alloc: Global, disk: &mut D, last: u64) -> Result<u64, CommandFault>
     ensures stays { Stays D.DiskModel disk.old disk.new }
     ensures second { D.tells disk.old → IfOk result (TellsSecond (D.view disk.old).seen) }
+    ensures cause { TellsFaults D.DiskModel disk.old disk.new result }
+    ensures fails { IfErr result (FailsFor D.DiskModel disk.old (λ _ _. ⊥)) }
 {
     match min_to_keep(alloc, disk, 0) {
         MinToKeep::Min { txid } => Ok(txid.saturating_sub(1)),
@@ -92,10 +98,12 @@ fn older_than<D: Disk>(alloc: Global, disk: &mut D, last: u64) -> Result<u64, Co
 }
 
 /// The txid of the newest image that counts.
-#[tactic(auto, using(crate::proofs::ImageLaws::starts))]
+#[tactic(auto, using(crate::proofs::ImageLaws::starts, crate::proofs::CauseLaws::told))]
 fn newest_of<D: Disk>(alloc: Global, disk: &mut D) -> Result<Option<u64>, CommandFault>
     ensures stays { Stays D.DiskModel disk.old disk.new }
     ensures tells { D.tells disk.old → IfOk result (TellsNewest (D.view disk.old).seen) }
+    ensures cause { TellsFaults D.DiskModel disk.old disk.new result }
+    ensures fails { IfErr result (FailsFor D.DiskModel disk.old (λ _ _. ⊥)) }
 {
     match newest(alloc, disk) {
         Newest::Image { txid } => Ok(Some(txid)),
@@ -106,11 +114,13 @@ fn newest_of<D: Disk>(alloc: Global, disk: &mut D) -> Result<Option<u64>, Comman
 }
 
 /// Reads the image of this txid, where it is the newest that counts, and the one before it.
-#[tactic(auto, using(crate::proofs::ImageLaws::starts))]
+#[tactic(auto, using(crate::proofs::ImageLaws::starts, crate::proofs::CauseLaws::passed))]
 fn start_at<D: Disk>(alloc: Global, disk: &mut D, last: u64) -> Result<Start, CommandFault>
     ensures stays { Stays D.DiskModel disk.old disk.new }
     ensures starts { D.tells disk.old → IsNewest (D.view disk.old).seen (Newest.Image last)
         → IfOk result (λ start. StartsAt (D.view disk.old).seen last start.standby start.images) }
+    ensures cause { TellsFaults D.DiskModel disk.old disk.new result }
+    ensures fails { IfErr result (FailsFor D.DiskModel disk.old (λ files of. (of ≡ last) ⊎ TellsSecond files of)) }
 {
     let before = older_than(alloc, disk, last)?;
     let mut images = SavedImages::new(alloc);
@@ -124,10 +134,12 @@ fn start_at<D: Disk>(alloc: Global, disk: &mut D, last: u64) -> Result<Start, Co
 }
 
 /// Reads the two newest images of the folder.
-#[tactic(auto, using(crate::proofs::ImageLaws::starts))]
+#[tactic(auto, using(crate::proofs::ImageLaws::starts, crate::proofs::CauseLaws::passed))]
 fn start_of<D: Disk>(alloc: Global, disk: &mut D) -> Result<Start, CommandFault>
     ensures stays { Stays D.DiskModel disk.old disk.new }
     ensures stands { D.tells disk.old → IfOk result (λ start. StandsAtNewest (D.view disk.old).seen start.standby start.images) }
+    ensures cause { TellsFaults D.DiskModel disk.old disk.new result }
+    ensures fails { IfErr result (FailsFor D.DiskModel disk.old IsOfTwoNewest) }
 {
     match newest_of(alloc, disk)? {
         Some(last) => start_at(alloc, disk, last),
@@ -143,7 +155,7 @@ fn start_of<D: Disk>(alloc: Global, disk: &mut D) -> Result<Start, CommandFault>
 /// after a reload, and has the two newest; where none counts it begins with nothing. No file
 /// changes. `BadFile`: one of these images is damaged, or tells another txid. `DiskFault`: the disk
 /// failed. `OutOfMemory`: there was no memory.
-#[tactic(auto, using(crate::proofs::ImageLaws::starts))]
+#[tactic(auto, using(crate::proofs::ImageLaws::starts, crate::proofs::CauseLaws::passed))]
 pub fn begin_lead<D: Disk + Drop>(
     alloc: Global,
     nodes: usize,
@@ -153,6 +165,7 @@ pub fn begin_lead<D: Disk + Drop>(
     ensures begun { IfOk result (λ by. IsBegun nodes by.actor) }
     ensures newest { D.tells disk → IfOk result (λ by. BeginsAs nodes (D.view disk).seen by.actor) }
     ensures folder { IfOk result (λ by. HasFolder D.DiskModel disk by) }
+    ensures fails { IfErr result (FailsToBegin D.DiskModel disk) }
 {
     let mut disk = disk;
     let (standby, images) = start_of(alloc, &mut disk)?.into_parts();

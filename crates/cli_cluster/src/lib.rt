@@ -9,7 +9,7 @@ mod lead_command;
 mod life;
 mod serve_command;
 
-pub use cluster_command::{ClusterCommand, PipeFolder, read_cluster_command};
+pub use cluster_command::{ClusterCommand, NodeFolder, PipeFolder, read_cluster_command};
 pub use folder_actor::{FolderActor, save_standby};
 pub use image_start::begin_lead;
 pub use lead_command::lead_cluster;

@@ -1,8 +1,9 @@
-use Rattle.std.proofs.Common.{◌∙◌, List, ap, sym, subst, arith}
+use Rattle.std.proofs.Common.{rules, ◌∙◌, List, ap, sym, subst, arith}
 use Rattle.base_disk.specs.Files.{Files}
 use Rattle.ns_edits.specs.Replay.{Image}
 use Rattle.play_standby.specs.Saves.{one_saved}
 use Rattle.cli_cluster.proofs.ImageLaws.{at_image, starts_one, starts_two}
+use Rattle.cli_cluster.proofs.CauseLaws.{older_bad}
 use Rattle.cli_cluster.proofs.image_start.start_at.Goals as goal
 use Rattle.cli_cluster.proofs.image_start.start_at.Goals.{then-before-last+in_ok-older+in_ok-save, else-before-last}
 
@@ -28,3 +29,9 @@ returns-clause-starts g c = λ t n.
           (at_image files (g.D.DiskModel.view c.if-before-last.disk).seen c.args.last c.in_ok-standby.standby same (c.in_ok-standby.ensures.at told))
           (c.in_ok-save-2.ensures ∙ ap (λ (is : List Image). one_saved is c.in_ok-standby.standby) (w.images-is ∙ c.new-images.ensures))
     ]
+
+-- the older one is bad
+pub returns-in_err-older-clause-fails : goal.returns-in_err-older-clause-fails
+returns-in_err-older-clause-fails g c =
+    older_bad g.D.DiskModel c.args.disk.now c.older_than.new.disk c.in_ok-before.before c.args.last c.from_residual-in_err-older.result c.in_err-older.field-0.0 (search rules)
+    c.in_ok-before.ensures.stays c.in_ok-before.ensures.second c.in_err-older.ensures.fails
