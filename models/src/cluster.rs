@@ -7,6 +7,7 @@ use crate::pipes::FarNode;
 use crate::reply::{Reason, Refusal, Reply, SegmentState};
 use crate::request::Request;
 use crate::script::Order;
+use crate::table::Kind;
 use crate::text::{Line, Lines, Span, Texts};
 use crate::words::{push_next_number, push_number};
 use std::collections::BTreeMap;
@@ -22,6 +23,17 @@ enum Inside {
 enum State {
     Up(Node<MemoryDisk>),
     Down(MemoryDisk),
+}
+
+/// What a node keeps beside its segments.
+pub struct Numbers {
+    pub promised: u64,
+    pub writer: u64,
+    pub committed: u64,
+    pub known: u64,
+    pub serial: u64,
+    pub open: Option<u64>,
+    pub is_up: bool,
 }
 
 /// One node: how it is, the stop that it holds (the calls until then, and where inside), and its history.
@@ -58,6 +70,43 @@ impl Seat {
             },
             up => up,
         };
+    }
+
+    /// Does something with the node as it stands; one that is down is opened for that, in a copy.
+    fn look<T>(&self, is_up: bool, look: impl FnOnce(&Node<MemoryDisk>, bool) -> T) -> Option<T> {
+        match &self.state {
+            State::Up(node) => Some(look(node, is_up)),
+            State::Down(disk) => opening::open(disk.clone()).ok().map(|node| look(&node, false)),
+        }
+    }
+
+    /// What it keeps beside its segments.
+    pub fn numbers(&self) -> Numbers {
+        let numbers = |node: &Node<MemoryDisk>, is_up| Numbers {
+            promised: node.promised,
+            writer: node.writer,
+            committed: node.committed,
+            known: node.known,
+            serial: node.serial,
+            open: node.open,
+            is_up,
+        };
+        let none = Numbers { promised: 0, writer: 0, committed: 0, known: 0, serial: 0, open: None, is_up: false };
+        self.look(true, numbers).unwrap_or(none)
+    }
+
+    /// The starts of its segments.
+    pub fn starts(&self) -> Vec<u64> {
+        self.look(true, |node, _| node.segments.keys().copied().collect()).unwrap_or_default()
+    }
+
+    /// The segment with that start; one without an edit ends below it.
+    pub fn segment(&self, start: u64) -> Option<SegmentState> {
+        self.look(true, |node, _| {
+            let segment = node.segments.get(&start)?;
+            let (is_final, is_accepted) = (segment.kind == Kind::Final, segment.kind == Kind::Accepted);
+            Some(SegmentState { start, end: segment.end(), epoch: segment.epoch, is_final, is_accepted })
+        })?
     }
 
     /// The request at the node: its reply, or how many effects stand where the node was stopped inside.

@@ -40,6 +40,7 @@ pub enum Choice {
 
 /// Bytes that were written over and not synced yet: the file, the place, what stood there, how many were written, and the length that
 /// the file had before.
+#[derive(Clone)]
 struct Unsynced {
     name: FileName,
     at: usize,
@@ -49,6 +50,7 @@ struct Unsynced {
 }
 
 /// A crash that is set: how many calls are still made, how many were made, and what wasn't synced.
+#[derive(Clone)]
 struct Crash {
     left: u64,
     made: u64,
@@ -56,7 +58,7 @@ struct Crash {
 }
 
 /// A disk in memory.
-#[derive(Default)]
+#[derive(Clone, Default)]
 pub struct MemoryDisk {
     files: BTreeMap<FileName, Vec<u8>>,
     crash: Option<Crash>,

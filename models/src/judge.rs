@@ -54,7 +54,7 @@ fn foreign_in(history: &[Entry]) -> Option<u64> {
 }
 
 /// What a node answers, as text.
-fn answer(seat: &mut Seat, entry: &Entry) -> Vec<u8> {
+pub fn answer(seat: &mut Seat, entry: &Entry) -> Vec<u8> {
     if let Some(order) = read_order(entry.asked) {
         return if seat.operate(order) { b"done".to_vec() } else { b"idle".to_vec() };
     }

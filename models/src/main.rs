@@ -38,6 +38,7 @@ mod segment;
 mod serve;
 mod space;
 mod standby;
+mod states;
 mod table;
 mod text;
 mod tree;
@@ -81,10 +82,10 @@ fn usage_before_bad_text(plain: &[&str]) -> Ending {
 /// The words of a command, or the place of the first word at which they stop being a prefix of one.
 fn shape(words: &[&str]) -> Result<(), usize> {
     let second: &[&str] = match words.first().copied() {
-        Some("play" | "run" | "piped" | "mirror" | "boot" | "node" | "fsck" | "judge") => return exact(words, 1),
+        Some("play" | "run" | "piped" | "mirror" | "boot" | "node" | "fsck" | "judge" | "states") => return exact(words, 1),
         Some("gen") => return shape_with_numbers(words, 1, &OF_GEN),
-        Some("serve") => return shape_with_folder(words, 1..=64),
-        Some("lead") => return shape_with_folder(words, 1..=15),
+        Some("serve") => return shape_with_folder(words, 1..=64, &[]),
+        Some("lead") => return shape_with_folder(words, 1..=15, &[1..=3600]),
         Some("oev") if words.get(1) == Some(&"back") => return shape_with_numbers(words, 3, &OF_BACK),
         Some("oev") => &["list", "stats", "json"],
         Some("oiv") if words.get(1) == Some(&"ls") => return shape_with_path(words),
@@ -116,11 +117,12 @@ fn shape_with_numbers(words: &[&str], first: usize, ranges: &[RangeInclusive<u64
     exact(words, first + ranges.len())
 }
 
-/// A number, and then nothing, or a folder.
-fn shape_with_folder(words: &[&str], count: RangeInclusive<u64>) -> Result<(), usize> {
+/// A number, and then nothing, or a folder, or a folder and a number in each of the ranges.
+fn shape_with_folder(words: &[&str], count: RangeInclusive<u64>, behind: &[RangeInclusive<u64>]) -> Result<(), usize> {
     match words.len() {
         0..=2 => shape_with_numbers(words, 1, &[count]),
-        _ => shape_with_numbers(&words[..2], 1, &[count]).and_then(|()| exact(words, 3)),
+        3 => shape_with_numbers(&words[..2], 1, &[count]),
+        _ => shape_with_numbers(&words[..2], 1, &[count]).and_then(|()| shape_with_numbers(words, 3, behind)),
     }
 }
 
@@ -148,12 +150,14 @@ fn run(words: &[&str]) -> Ending {
         ["piped"] => with_script(piped),
         ["mirror"] => with_script(mirror),
         ["boot"] => with_script(boot),
-        ["judge"] => judge(),
+        ["judge"] => with_report(judge::judge),
+        ["states"] => with_report(states::states),
         ["node"] => serve::serve(),
         ["serve", clients] => pipes::serve(number(clients), "clients"),
         ["serve", clients, folder] => pipes::serve(number(clients), folder),
         ["lead", nodes] => pipes::lead(number(nodes) as usize, "nodes"),
-        ["lead", nodes, folder] => pipes::lead(number(nodes) as usize, folder),
+        // (the model's reads wait as long as it takes)
+        ["lead", nodes, folder, ..] => pipes::lead(number(nodes) as usize, folder),
         ["fsck"] => match fsck::check() {
             Ok((text, 0)) => Ending::Ok(text),
             Ok((text, _)) => Ending::Unsound(text),
@@ -213,13 +217,13 @@ fn boot(script: &[u8]) -> Result<Ending, BadLine> {
     })
 }
 
-/// Judges the report on the standard input.
-fn judge() -> Ending {
+/// Reads a report from the standard input, and does something with it.
+fn with_report(take: fn(&[u8]) -> Result<Ending, BadLine>) -> Ending {
     let Ok(report) = ends::read_all(play::LONGEST_REPORT) else { return Ending::ReadFault };
     if report.len() > play::LONGEST_REPORT {
         return Ending::Limit(play::LONGEST_REPORT as u64);
     }
-    judge::judge(&report).unwrap_or_else(|bad| Ending::BadReport { line: bad.line, rule: bad.rule })
+    take(&report).unwrap_or_else(|bad| Ending::BadReport { line: bad.line, rule: bad.rule })
 }
 
 /// Lists a file of the current folder.
