@@ -1,1 +1,1 @@
-"""One keeper a machine: it keeps the nodes and the leads of a cluster, and takes commands over a Unix socket. It proves nothing."""
+"""The keeper of a machine: it keeps nodes and leads, and takes commands. It proves nothing."""

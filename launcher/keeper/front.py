@@ -1,6 +1,4 @@
-"""Gives a command to the keeper of the current folder, and ends with the status of its result."""
-from __future__ import annotations
-
+"""The commands of `./qjm cluster`: each is given to the keeper of the folder."""
 import argparse
 import fcntl
 import json
@@ -13,26 +11,66 @@ import subprocess
 import sys
 import time
 from pathlib import Path
-from typing import Any
+from typing import Any, NoReturn, Optional
 
-from .statuses import DONE, FAULT, NO_KEEPER, REFUSED, TAKEN, USAGE, Reply
-from .words import read_words
+from .config import check_room, load_config, problems_of
+from .settings import DONE, FAULT, NO_KEEPER, REFUSED, SOCKET, TAKEN, USAGE, Reply, open_log, \
+    settings_from_environment
+from .shown import metrics_of, text_of
 
-SOCKET = 'cluster.run/keeper.sock'
+# Which commands there are, and the help of each; and the words of each behind its name.
+HELP = Path(__file__).resolve().parent.parent / 'help/cluster-commands.txt'
+ON_OFF, FLAG = {'choices': ['on', 'off']}, {'action': 'store_true'}
+WORDS: dict[str, dict[str, dict[str, Any]]] = {
+    'up': {'--again': FLAG, '--auto': ON_OFF}, 'keep': {'--auto': ON_OFF}, 'auto': {'on': ON_OFF},
+    'down': {'--force': FLAG}, 'status': {'--json': FLAG, '--own-lead': FLAG},
+    'log': {'line': {'nargs': '+'}}, 'tell': {'name': {}, 'line': {'nargs': '+'}},
+    'kill': {'kind': {'choices': ['node', 'lead']}, 'name': {}},
+    'trim': {'extra': {'type': int, 'nargs': '?', 'default': 0}},
+    **{name: {'name': {}} for name in ('failover', 'checkpoint', 'hold', 'release', 'adopt')}}
 
 
 class NoKeeper(Exception):
-    """Nobody answers at the socket."""
-    status = NO_KEEPER
+    """Nobody answers at the socket, or one who hangs: why, and the status of that."""
 
 
-class Hangs(NoKeeper):
-    """A keeper is there, and doesn't answer."""
-    status = FAULT
+def say(*texts: object) -> None:
+    for text in texts:
+        print(f'qjm: {text}', file=sys.stderr)
 
 
-def say(text: str) -> None:
-    print(f'qjm: {text}', file=sys.stderr)
+class Parser(argparse.ArgumentParser):
+    """A parser that ends with the launcher's status for wrong words, and changed nothing."""
+
+    def error(self, message: str) -> NoReturn:
+        say(message, f'`{self.prog} --help` says more')
+        sys.exit(USAGE)
+
+
+def read_words(words: list[str]) -> argparse.Namespace:
+    """The words of a command; ends with status 1 where they are wrong, and 0 behind a help."""
+    *texts, statuses = HELP.read_text().split('\n\n')
+    style: dict[str, Any] = {'allow_abbrev': False, 'epilog': statuses,
+                             'formatter_class': argparse.RawDescriptionHelpFormatter}
+    parser = Parser(prog='qjm cluster', description='Keeps nodes and leads.', **style)
+    parser.add_argument('-C', dest='folder', default='.', metavar='FOLDER',
+                        help='the folder that has cluster.conf')
+    parser.add_argument('--timeout', type=float, default=20.0, metavar='SECONDS',
+                        help='how long a result is waited for; 20')
+    commands = parser.add_subparsers(dest='command', required=True, metavar='COMMAND')
+    for text in texts:
+        shape, does = text.split('\n', 1)
+        name = shape.split()[0]
+        made = commands.add_parser(name, description=does, help=does.split('.')[0], **style,
+                                   usage=f'qjm cluster [-C FOLDER] [--timeout SECONDS] {shape}')
+        made.add_argument('--timeout', type=float, default=argparse.SUPPRESS, metavar='SECONDS',
+                          help=argparse.SUPPRESS)
+        for word, more in WORDS.get(name, {}).items():
+            made.add_argument(word, **more)
+    asked = parser.parse_args(words)
+    if not 0 < asked.timeout <= 3600:
+        parser.error(f'--timeout {asked.timeout:g}: it is more than 0, and 3600 at most')
+    return asked
 
 
 def dial(seconds: float, path: str = SOCKET) -> socket.socket:
@@ -41,59 +79,55 @@ def dial(seconds: float, path: str = SOCKET) -> socket.socket:
     door.settimeout(min(seconds, 5))
     try:
         door.connect(path)
+        return door
     except OSError as error:
         door.close()
-        raise NoKeeper(f'no keeper answers here ({error.strerror or error}): `up` starts one') from error
-    return door
+        raise NoKeeper(f'no keeper answers here ({error.strerror or error}): `up` starts one',
+                       NO_KEEPER) from error
 
 
-def ask_keeper(command: dict[str, Any], seconds: float, path: str = SOCKET) -> Reply:
+def ask_keeper(command: Reply, seconds: float, path: str = SOCKET) -> Reply:
     """The keeper's reply, waited for at most so long."""
     with dial(seconds, path) as door:
         door.settimeout(seconds)
         try:
             door.sendall(json.dumps({'id': 1, **command}).encode() + b'\n')
-            with door.makefile('rb') as lines:
-                line = lines.readline()
+            line = door.makefile('rb').readline()
         except OSError as error:
-            raise Hangs(f'the keeper doesn\'t answer ({error.strerror or error}): `down --force` ends one that hangs') from error
+            why = f'the keeper doesn\'t answer ({error.strerror or error})'
+            raise NoKeeper(f'{why}: `down --force` ends one that hangs', FAULT) from error
     if not line:
-        raise NoKeeper('the keeper ended before it answered')
+        raise NoKeeper('the keeper ended before it answered', NO_KEEPER)
     told: Reply = json.loads(line)
     return told
 
 
 def start_keeper(seconds: float, words: list[str]) -> None:
-    """Sees that a keeper runs: where none answers one is started. Of several that are started at once all but one end by themselves."""
+    """Sees that a keeper runs. Of several that are started at once one goes on."""
+    status: Optional[int] = TAKEN
     end, started = time.monotonic() + seconds, None
-    while time.monotonic() < end:
+    while time.monotonic() < end and status in (None, TAKEN, 0, 137, -9):
         try:
             if not ask_keeper({'command': 'status'}, 5)['is_ending']:
                 return
         except NoKeeper:
             pass
-        if started is None or started.poll() == TAKEN:
-            started = spawn_keeper(words)
-        elif started.poll() not in (None, 0, 137, -9):
-            raise NoKeeper(f'the keeper ended with status {started.poll()}: cluster.run/keeper.log has its words')
-        elif started.poll() is not None:
-            started = None
+        started = started if started and status is None else spawn_keeper(words)
         time.sleep(0.05)
-    if started and started.poll() is None:
+        status = started.poll()
+    if started and status is None:
         # (it must not take the folder later, when this command has told that it failed)
         started.kill()
-    raise (Hangs if is_kept() else NoKeeper)('no keeper answers, or one has the folder and hangs: `down --force` ends it; '
-                                             'cluster.run/keeper.log has its words')
+    raise NoKeeper('no keeper answers, or one has the folder and hangs: `down --force` ends it; '
+                   'cluster.run/keeper.log has its words', FAULT if is_kept() else NO_KEEPER)
 
 
-def spawn_keeper(words: list[str]) -> subprocess.Popen[bytes]:
+def spawn_keeper(words: list[str]) -> 'subprocess.Popen[bytes]':
     os.makedirs('cluster.run', mode=0o700, exist_ok=True)
-    log = Path('cluster.run/keeper.log')
-    if log.exists() and log.stat().st_size > 1 << 20:
-        os.replace(log, 'cluster.run/keeper.log.old')
-    with open(log, 'ab') as errors:
-        return subprocess.Popen([sys.executable, '-I', str(Path(__file__).with_name('__main__.py')), 'keep', *words],
-                                stdin=subprocess.DEVNULL, stdout=errors, stderr=errors, start_new_session=True)
+    program = [sys.executable, '-I', str(Path(__file__).with_name('__main__.py')), 'keep', *words]
+    with open_log(Path('cluster.run/keeper.log')) as log:
+        return subprocess.Popen(program, stdin=subprocess.DEVNULL, stdout=log, stderr=log,
+                                start_new_session=True)
 
 
 def is_kept() -> bool:
@@ -102,26 +136,17 @@ def is_kept() -> bool:
         with open('cluster.run/lock', 'rb') as lock:
             fcntl.flock(lock, fcntl.LOCK_SH | fcntl.LOCK_NB)
         return False
-    except BlockingIOError:
-        return True
-    except OSError:
-        return False
+    except OSError as error:
+        return isinstance(error, BlockingIOError)
 
 
 def kill_keeper() -> int:
-    """Kills the process that listens at the socket, as the kernel tells it; its children die with it."""
-    try:
-        with dial(5) as door:
-            listener = struct.unpack('3i', door.getsockopt(socket.SOL_SOCKET, socket.SO_PEERCRED, 12))[0]
-            handle = os.pidfd_open(listener)
-            signal.pidfd_send_signal(handle, signal.SIGKILL)
-            select.select([handle], [], [], 5)
-    except (NoKeeper, OSError) as error:
-        if not is_kept():
-            say('it is down already')
-            return DONE
-        say(f'{error}')
-        return NO_KEEPER
+    """Kills who listens at the socket, as the kernel tells it; its children die with it."""
+    with dial(5) as door:
+        told = door.getsockopt(socket.SOL_SOCKET, socket.SO_PEERCRED, 12)
+    handle = os.pidfd_open(struct.unpack('3i', told)[0])
+    signal.pidfd_send_signal(handle, signal.SIGKILL)
+    select.select([handle], [], [], 5)
     return DONE
 
 
@@ -137,100 +162,77 @@ def attach() -> int:
                 return DONE if ready == 0 else NO_KEEPER
             if ready == 0:
                 door.sendall(data)
-            else:
-                while data:
-                    data = data[os.write(1, data):]
+            while ready != 0 and data:
+                data = data[os.write(1, data):]
 
 
-def check_here(asked: argparse.Namespace) -> int:
-    """The checks that need no keeper; one that runs is asked too."""
-    from .checks import check_machine, check_room
-    from .config import load_config
-    from .settings import settings_from_environment
-    top = Path.cwd()
-    config = load_config(top)
-    problems = config.problems or check_machine(config, top, settings_from_environment()) + check_room(config, top)
+def check(seconds: float) -> int:
+    """The checks that need no keeper; one that runs is asked of other machines."""
+    config = load_config(Path.cwd())
+    problems = problems_of(config, Path.cwd(), settings_from_environment())
+    problems += [] if config.problems else check_room(config, Path.cwd())
     try:
-        problems = ask_keeper({'command': 'check'}, asked.timeout)['says']
+        problems += ask_keeper({'command': 'check'}, seconds)['says']
     except NoKeeper:
         pass
-    for problem in problems:
-        say(problem)
+    say(*problems)
     return USAGE if config.problems else REFUSED if problems else DONE
-
-
-def run(asked: argparse.Namespace) -> int:
-    """Runs a command in the cluster's folder."""
-    if asked.command == 'check':
-        return check_here(asked)
-    if asked.command == 'attach':
-        return attach()
-    if asked.command == 'keep':
-        from .main import run_keeper
-        return run_keeper(asked.auto)
-    if getattr(asked, 'force', False):
-        return kill_keeper()
-    if asked.command == 'up':
-        if asked.again and was_taken_down():
-            return DONE
-        status = refuse_broken()
-        if status != DONE:
-            return status
-        start_keeper(min(asked.timeout, 15), ['--auto', asked.auto] if asked.auto else [])
-    command = {name: value for name, value in vars(asked).items() if name not in ('folder', 'json', 'again', 'force', 'auto')}
-    if asked.command == 'metrics':
-        command['command'] = 'status'
-    if isinstance(command.get('line'), list):
-        command['line'] = ' '.join(command['line'])
-    if asked.command == 'up' and asked.auto:
-        ask_keeper({'command': 'auto', 'on': asked.auto == 'on'}, asked.timeout)
-    if asked.command == 'auto':
-        command['on'] = asked.on == 'on'
-    reply = ask_keeper(command, asked.timeout * (20 if asked.command == 'restart' else 2) + 15)
-    show(asked, reply)
-    return DONE if asked.command == 'metrics' else int(reply['status'])
-
-
-def refuse_broken() -> int:
-    """Tells what keeps a cluster from being started, before anything starts."""
-    from .checks import check_machine
-    from .config import load_config
-    from .settings import settings_from_environment
-    config = load_config(Path.cwd())
-    problems = config.problems or check_machine(config, Path.cwd(), settings_from_environment())
-    for problem in problems:
-        say(problem)
-    return USAGE if problems else DONE
 
 
 def was_taken_down() -> bool:
     """Whether the last command of the folder was `down`, or nothing was ever started here."""
+    file = Path('cluster.run/memory.json')
     try:
-        return bool(json.loads(Path('cluster.run/memory.json').read_text())['down'])
-    except FileNotFoundError:
-        return True
+        return not file.exists() or bool(json.loads(file.read_text())['down'])
     except (OSError, ValueError, KeyError):
         return False
+
+
+def run(asked: argparse.Namespace) -> int:
+    """Runs a command in the cluster's folder."""
+    name, given = asked.command, vars(asked)
+    if name == 'check':
+        return check(asked.timeout)
+    if name == 'attach':
+        return attach()
+    if name == 'keep':
+        from .main import run_keeper
+        return run_keeper(asked.auto)
+    if given.get('force'):
+        return kill_keeper()
+    on = given.get('on') or given.get('auto')
+    if name == 'up':
+        if asked.again and was_taken_down():
+            return DONE
+        problems = problems_of(load_config(Path.cwd()), Path.cwd(), settings_from_environment())
+        say(*problems)
+        if problems:
+            return USAGE
+        start_keeper(min(asked.timeout, 15), ['--auto', on] if on else [])
+    command = {word: given[word] for word in ('name', 'kind', 'extra', 'timeout') if word in given}
+    if 'line' in given:
+        command['line'] = ' '.join(asked.line)
+    if on:
+        command['on'] = on == 'on'
+    reply = ask_keeper({**command, 'command': 'status' if name == 'metrics' else name},
+                       asked.timeout * (20 if name == 'restart' else 2) + 15)
+    show(asked, reply)
+    return DONE if name == 'metrics' else int(reply['status'])
 
 
 def show(asked: argparse.Namespace, reply: Reply) -> None:
     """Writes what a command told."""
     if asked.command == 'status' and asked.json:
-        print(json.dumps({name: value for name, value in reply.items() if name not in ('id', 'results', 'status')}))
+        told = {name: reply[name] for name in reply if name not in ('id', 'results', 'status')}
+        print(json.dumps(told))
     elif asked.command == 'status' and asked.own_lead:
-        print(next((lead['name'] for lead in reply['leads'] if lead['folder'].split(':')[0] == reply['machine'] or not reply['machine']), ''))
-    elif asked.command == 'status' and 'nodes' in reply:
-        from .shown import text_of
-        print(text_of(reply))
-    elif asked.command == 'metrics' and 'nodes' in reply:
-        from .metrics import metrics_of
-        print(metrics_of(reply), end='')
+        print(next((lead['name'] for lead in reply['leads']
+                    if reply['machine'] in ('', lead['folder'].split(':')[0])), ''))
+    elif 'nodes' in reply:
+        print(metrics_of(reply) if asked.command == 'metrics' else text_of(reply))
     for result in reply['results']:
         print(result)
-    for text in [reply['up']] if 'up' in reply else []:
-        say(text)
-    for text in reply['says']:
-        say(text)
+    say(*([reply['up']] if 'up' in reply else []), *reply['says'])
 
 
 def main() -> int:
@@ -240,17 +242,14 @@ def main() -> int:
         os.chdir(asked.folder)
         return run(asked)
     except NoKeeper as error:
-        if asked.command == 'down' and not is_kept():
-            say('it is down already')
-            return DONE
-        say(str(error))
-        return error.status
+        is_down, (why, status) = asked.command == 'down' and not is_kept(), error.args
+        say('it is down already' if is_down else why)
+        return DONE if is_down else int(status)
     except ValueError as error:
         say(f'a bound of the environment (QJM_..) is no number: {error}')
-        return USAGE
     except BrokenPipeError:
         os.dup2(os.open(os.devnull, os.O_WRONLY), 1)
         return 7
     except OSError as error:
-        say(f'{error.filename or "the folder"}: {error.strerror}: make room, or mend its owner or mode')
-        return USAGE
+        say(f'{error.filename or "folder"}: {error.strerror}: make room, or mend its owner or mode')
+    return USAGE

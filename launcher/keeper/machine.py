@@ -1,214 +1,114 @@
-"""All nodes and leads of this machine, and its ways to others, from the start of the keeper to its end."""
-from __future__ import annotations
-
+"""All nodes and leads of this machine, and its ways to others."""
 import asyncio
-import os
 import shutil
 import sys
 import time
 from pathlib import Path
-from typing import IO, Callable, Union
+from typing import IO, Optional
 
-from .attachment import FarLink
-from .child import Child, Pause
-from .config import Config, MachineLine
+from .config import Config, Place
 from .emulated import Link
-from .lead_keeper import LeadKeeper
-from .lead_lines import Asked
-from .memory import Memory
+from .kept import Kept
+from .lead_keeper import Asked, LeadKeeper
 from .node_keeper import NodeKeeper
-from .peer import Peer
-from .relay import words_to_listen
-from .settings import Settings
+from .peer import FarLink, Listener, Peer, words_to_listen
+from .pipes import now, until
+from .remembered import Memory
+from .settings import Settings, open_log
 from .view import View
-
-LONGEST_LOG = 1 << 20
-Keeper = Union[NodeKeeper, LeadKeeper, Peer]
-
-
-def note(text: str) -> None:
-    """Writes a line into the keeper's log, which is its standard error. A full disk keeps nothing from going on."""
-    try:
-        print(time.strftime('%Y-%m-%d %H:%M:%S'), text, file=sys.stderr, flush=True)
-    except OSError:
-        pass
 
 
 class Machine:
-    """The nodes and leads. Pipes are made anew in cluster.run/pipes for each life of the keeper."""
+    """What is kept in a life of the keeper. `deaths` counts ends of nodes and leads by themselves;
+    `died_at` is when one ended last; `looked_for` has automatic failover look at once."""
 
     def __init__(self, top: Path, config: Config, settings: Settings) -> None:
         self.top, self.config, self.settings = top, config, settings
-        self.run_folder = top / 'cluster.run'
-        self.memory = Memory(self.run_folder / 'memory.json')
-        self.pipes = self.run_folder / 'pipes'
+        self.run, self.pipes = top / 'cluster.run', top / 'cluster.run/pipes'
+        self.memory = Memory(self.run / 'memory.json')
         shutil.rmtree(self.pipes, ignore_errors=True)
         self.pipes.mkdir(mode=0o700)
-        self.deaths, self.takeovers, self.died_at = 0, 0, 0.0
-        # set where automatic failover is to look at once
-        self.looked_for = asyncio.Event()
-        self.nodes = [NodeKeeper(place, top, self.pipes / f'node{place.name}', len(config.leads), self.memory, settings,
-                                 self.open_log, note) for place in config.nodes if config.is_here(place)]
-        for node in self.nodes:
-            node.on_joined, node.on_death = self.looked_for.set, self.note_death
-        self.peers = {line.name: self.make_peer(line) for line in config.others}
-        self.leads = {place.name: self.make_lead(place.name) for place in config.leads if config.is_here(place)}
+        self.deaths, self.takeovers, self.died_at, self.until = 0, 0, 0.0, until
+        self.looked_for, self.is_last, self.is_ending = asyncio.Event(), asyncio.Event(), False
+        self.nodes = [NodeKeeper(self, place) for place in config.nodes if config.is_here(place)]
+        self.peers = {line.name: Peer(self, line) for line in config.others}
+        self.leads = {place.name: LeadKeeper(self, place, self.links_of(place.name))
+                      for place in config.leads if config.is_here(place)}
+        own: list[Kept] = [*self.nodes, *self.leads.values()]
+        self.own: dict[tuple[str, str], Kept] = {(kept.kind, kept.name): kept for kept in own}
+        self.kept: list[Kept] = [*self.own.values(), *self.peers.values()]
+        if words_to_listen(config):
+            self.kept.append(Listener(self, Place('', '', ''), 'listen'))
         self.tasks: list[asyncio.Task[None]] = []
-        self.is_ending = False
-        self.view = View(self)
+        self.view: View = View(self)
 
-    def make_peer(self, line: MachineLine) -> Peer:
-        peer = Peer(line, self.config, self.top, self.settings, self.open_log, note)
-        peer.on_beat = lambda peer, told: self.view.take(peer, told)
-        peer.on_lost = self.lose
-        return peer
-
-    def make_lead(self, name: str) -> LeadKeeper:
-        """A lead of this machine, with its ways to all nodes, here and elsewhere."""
-        client, links = self.config.client_of(name), []
-        own = {node.name: node for node in self.nodes}
+    def links_of(self, lead: str) -> list[Link]:
+        """The pipes of a lead of this machine to all nodes, here and elsewhere."""
+        client, links = self.config.client_of(lead), []
+        own = {node.name: node.links[client] for node in self.nodes}
         for place in self.config.nodes:
-            link: Link
-            if place.name in own:
-                link = own[place.name].links[client]
-            else:
+            if place.name not in own:
                 folder = self.pipes / f'far{place.name}'
                 folder.mkdir(exist_ok=True)
-                link = self.peers[place.host].links[f'{place.name} {name}'] = FarLink(folder, client, place.name, name)
-            links.append(link)
-        place = self.config.leads[client - 1]
-        lead = LeadKeeper(place, self.top, self.pipes / f'lead-{name}', links, self.settings, self.open_log, note)
-        lead.on_taken, lead.on_death = self.made_active, self.note_death
-        return lead
+                link = FarLink(folder, client, place.name, lead)
+                self.peers[place.host].links.append(link)
+            links.append(own.get(place.name) or link)
+        return links
+
+    def note(self, text: str) -> None:
+        """Writes a line into the keeper's log; a full disk keeps nothing from going on."""
+        try:
+            print(time.strftime('%Y-%m-%d %H:%M:%S'), text, file=sys.stderr, flush=True)
+        except OSError:
+            pass
 
     def open_log(self, name: str) -> IO[bytes]:
-        """The log of one child, opened at each of its starts; of what grew long the part before is kept once."""
-        path = self.run_folder / f'{name}.log'
+        """The log of one child, opened at each of its starts."""
         try:
-            if path.exists() and path.stat().st_size > LONGEST_LOG:
-                os.replace(path, path.with_suffix('.log.old'))
-            return open(path, 'ab', buffering=0)
+            return open_log(self.run / f'{name}.log')
         except OSError as error:
-            note(f'{path} can\'t be written: {error.strerror}')
-            return open(os.devnull, 'wb', buffering=0)
-
-    @property
-    def keepers(self) -> list[Keeper]:
-        return [*self.nodes, *self.leads.values(), *self.peers.values()]
+            self.note(f'{name}.log can\'t be written: {error.strerror}')
+            return open('/dev/null', 'wb', buffering=0)
 
     def start(self) -> None:
-        for keeper in self.keepers:
-            self.tasks.append(asyncio.create_task(self.keep(keeper)))
-        if words_to_listen(self.config):
-            self.tasks.append(asyncio.create_task(self.listen()))
-
-    async def keep(self, keeper: Keeper) -> None:
-        """Runs one keeper's loop; at a fault of this program's own its child is ended, and the loop runs again."""
-        while not self.is_ending:
-            try:
-                await keeper.run()
-                return
-            except Exception as error:  # noqa: BLE001
-                note(f'fault in {type(keeper).__name__} {keeper.name}: {error!r}')
-                if not isinstance(keeper, Peer):
-                    keeper.kill()
-                await asyncio.sleep(0.5)
-
-    async def listen(self) -> None:
-        """Keeps what listens for the relays of other machines."""
-        pause = Pause(most=5.0)
-        while not self.is_ending:
-            with self.open_log('listen') as log:
-                child = Child(words_to_listen(self.config), self.top, log)
-            try:
-                await child.ended.wait()
-            finally:
-                child.kill()
-            note(f'what listens ended with status {child.status}')
-            child.close()
-            await pause.after(asyncio.get_running_loop().time() - child.began)
-
-    def wake(self) -> None:
-        """Starts now what pauses, and tries again what was refused."""
-        for keeper in self.keepers:
-            if keeper.state in ('pausing', 'refused', 'lost'):
-                keeper.pause.wake()
-                if keeper.state != 'pausing':
-                    keeper.set_state('pausing', keeper.why)
-
-    # ## What happened
+        self.tasks = [asyncio.create_task(kept.keep()) for kept in self.kept]
 
     def note_death(self) -> None:
         """A node or a lead ended by itself."""
         self.deaths += 1
-        self.died_at = asyncio.get_running_loop().time()
+        self.died_at = now()
         self.looked_for.set()
 
-    def lose(self, peer: Peer) -> None:
-        """There is no way to a machine any more."""
-        if peer.is_gone:
-            self.died_at = asyncio.get_running_loop().time()
-            self.view.forget(peer.name)
-        self.looked_for.set()
-
-    def joined_elsewhere(self, node: str) -> None:
-        """A node of another machine came back."""
+    def note_active(self, name: str, epoch: int) -> None:
+        """Notes that a lead took over; what others hold is over, since the nodes refuse them."""
+        self.memory.put('epoch', epoch)
+        self.memory.put('active', name)
         for lead in self.leads.values():
-            lead.links[int(node) - 1].joined_at = asyncio.get_running_loop().time()
-        self.looked_for.set()
-
-    def made_active(self, lead: LeadKeeper) -> None:
-        """Notes who is active; what others hold is over, since the nodes refuse them."""
-        self.takeovers += 1
-        self.memory.put('epoch', lead.epoch)
-        self.memory.put('active', lead.name)
-        for other in self.leads.values():
-            other.is_active = other is lead
-
-    def heed_epochs(self) -> None:
-        """A lead elsewhere that took over under a greater epoch ended what one here held."""
-        active = self.view.active()
-        if active and active['name'] not in self.leads and active['epoch'] > self.memory.get('epoch'):
-            self.memory.put('epoch', active['epoch'])
-            self.memory.put('active', active['name'])
-            for lead in self.leads.values():
-                lead.is_active = False
+            lead.is_active = lead.name == name
 
     @property
     def answering(self) -> int:
         """How many nodes a lead here can reach, as far as is known."""
-        count = sum(node.answers for node in self.nodes)
-        for place in self.config.nodes:
-            if not self.config.is_here(place) and self.peers[place.host].state == 'connected':
-                told = self.view.node(place.name)
-                count += told is not None and told['state'] == 'answering'
-        return count
+        near = ['', self.config.own, *(peer.name for peer in self.peers.values() if peer.is_well)]
+        told = [self.view.told('node', p.name) for p in self.config.nodes if p.host in near]
+        return sum(node is not None and node['state'] == 'answering' for node in told)
 
     @property
-    def active(self) -> LeadKeeper | None:
+    def active(self) -> Optional[LeadKeeper]:
         """The lead here that is active, as far as it told."""
         return next((lead for lead in self.leads.values() if lead.is_active), None)
 
-    async def until(self, is_so: Callable[[], bool], seconds: float) -> bool:
-        """Waits until something is so, at most so long."""
-        end = asyncio.get_running_loop().time() + seconds
-        while not is_so():
-            if asyncio.get_running_loop().time() >= end:
-                return False
-            await asyncio.sleep(0.02)
-        return True
-
     async def fail_over(self, lead: LeadKeeper, seconds: float) -> Asked:
         """Has a lead take over, as often as it is aborted and time is left."""
-        loop = asyncio.get_running_loop()
-        end = loop.time() + seconds
-        if lead.state in ('pausing', 'refused'):
-            lead.pause.wake()
+        end = now() + seconds
+        lead.wake()
         while True:
-            await self.until(lambda: self.answering >= self.config.majority and lead.state == 'ready', end - loop.time())
-            asked = await lead.ask('takeover', max(0.1, end - loop.time()), self.settings.takeover_limit)
+            await until(lambda: self.answering >= self.config.majority and lead.is_well,
+                        end - now())
+            asked = await lead.ask('takeover', max(0.1, end - now()), self.settings.takeover_limit)
             is_taken = asked.outcome == 'told' and lead.is_active
-            if is_taken or loop.time() + 0.3 >= end or any(' purged ' in result for result in asked.results):
+            is_purged = any(' purged ' in result for result in asked.results)
+            if is_taken or is_purged or now() + 0.3 >= end:
                 return asked
             await asyncio.sleep(0.2)
 
@@ -218,11 +118,10 @@ class Machine:
         for node in self.nodes:
             node.is_wanted = False
         await asyncio.gather(*(lead.stop() for lead in self.leads.values()))
-        for node in self.nodes:
-            node.pause.wake()
-        await asyncio.gather(*(node.stop() for node in self.nodes), *(peer.stop() for peer in self.peers.values()))
-        for task in self.tasks[len(self.nodes) + len(self.leads):]:
+        await asyncio.gather(*(kept.stop() for kept in self.kept))
+        for lead in self.leads.values():
+            lead.refuse_all(f'the lead {lead.name} was ended')
+        for task in self.tasks[len(self.own):]:
             task.cancel()
-        await asyncio.wait([*self.tasks, asyncio.create_task(asyncio.sleep(0))], timeout=5)
-        left = [node.name for node in self.nodes if node.child] + [lead.name for lead in self.leads.values() if lead.child]
-        return [f'{name} hasn\'t ended' for name in left]
+        await asyncio.wait(self.tasks, timeout=5)
+        return [f'{kept.place} hasn\'t ended' for kept in self.own.values() if kept.child]

@@ -1,207 +1,207 @@
-"""Keeps one node of this machine: checks its folder, starts it, watches it, and starts it again."""
-from __future__ import annotations
-
+"""Keeps one node of this machine: checks its folder, starts it, watches it, starts it again."""
 import asyncio
-from pathlib import Path
-from typing import IO, Any, Callable
+import re
+from typing import Any, Optional
 
-from .attachment import Attachment
-from .child import Child, Pause
 from .config import Place
-from .emulated import Link, end_sessions
-from .memory import Memory
-from .node_folder import NotOwn, has_node_files, in_thread, prepare, write_number
-from .pipes import read_some
-from .settings import Settings
-from .watch import Watch
-
-# What an end's status says, beside the node's own words.
-REASONS = {
-    3: 'its files are damaged: "A damaged file" in docs/OPERATING.md', 5: 'its files have findings: "A damaged file" in '
-    'docs/OPERATING.md', 8: 'its folder couldn\'t be read or written, as where the disk is full: make room, or mend what the log names',
-    9: 'there wasn\'t memory enough', 70: 'the program isn\'t built', 75: 'another process has the folder', 127: 'no program there',
-    137: 'it was killed'}
+from .emulated import BAD, Link
+from .kept import Child, Kept, Machine, age_of
+from .remembered import NotOwn, has_node_files, in_thread, prepare, write_number
+from .pipes import now, read_some, until_readable, write_some
+from .wire import Way, Wire
 
 
-class NodeKeeper:
-    """A node. `state` is one of held, lost, checking, refused, starting, answering, hanging, pausing, off."""
+class Watch:
+    """One more client of a node, and what that answered: its promise, and of its `count` segments
+    the `last` txid and the `newest`."""
 
-    def __init__(self, place: Place, top: Path, pipes: Path, leads: int, memory: Memory, settings: Settings,
-                 open_log: Callable[[str], IO[bytes]], note: Callable[[str], None]) -> None:
-        self.place, self.name, self.folder = place, place.name, top / place.path
-        self.memory, self.settings, self.open_log, self.note = memory, settings, open_log, note
-        self.clients = leads + 1
-        # what stands in `door` is what the node sees of its pipes
-        self.door = pipes / 'clients'
+    def __init__(self, link: Link) -> None:
+        self.link, self.calls = link, 0
+        self.promise: Optional[int] = None
+        self.answered_at, self.listed_at, self.last, self.count, self.newest = 0.0, 0.0, 0, 0, ''
+
+    async def open(self, opened: asyncio.Event) -> None:
+        """Waits until the node reads its pipes."""
+        while not await self.link.flush(1.0):
+            pass
+        opened.set()
+
+    async def ask(self, request: str, seconds: float) -> Optional[str]:
+        """The answer to a request, or nothing where none comes in time."""
+        end, came = now() + seconds, b''
+        self.calls += 1
+        line = b'#1 %d %s .\n' % (self.calls, request.encode())
+        wanted = re.compile(rb'^#1 %d (.*) \.\n' % self.calls, re.MULTILINE)
+        is_given = write_some(self.link.requests, line)
+        while is_given and await until_readable(self.link.replies, end - now()):
+            came += read_some(self.link.replies)
+            found = wanted.search(came)
+            if found:
+                return found[1].decode('ascii', 'replace')
+            if came.endswith(BAD):
+                is_given = write_some(self.link.requests, line)
+        return None
+
+    async def look(self, seconds: float, manifest_each: float) -> bool:
+        """Asks the node once; whether it answered."""
+        told = await self.ask('state', seconds)
+        if not told or not told.startswith('state '):
+            return False
+        self.promise, self.answered_at = int(told[6:]), now()
+        if now() - self.listed_at >= manifest_each:
+            told = await self.ask('manifest', seconds)
+            if not told or not told.startswith('segments'):
+                return False
+            # (behind the word stand START END KIND EPOCH of each segment)
+            _, *words = told.split()
+            self.count, self.listed_at = len(words) // 4, now()
+            if words:
+                start, end, kind, _ = words[-4:]
+                self.last, is_final = int(end), kind == 'final'
+                self.newest = f'{start}..{end}' if is_final else f'{start}.. (in progress)'
+        return True
+
+    def told(self) -> dict[str, Any]:
+        return {'promise': self.promise, 'last': self.last, 'segments': self.count,
+                'newest': self.newest, 'answered': age_of(self.answered_at),
+                'listed': age_of(self.listed_at)}
+
+
+class NodeKeeper(Kept):
+    """A node: held, lost, checking, refused, starting, answering, hanging, pausing or off. What
+    stands in the folder `door` is what it sees of its pipes."""
+    kind, well = 'node', 'answering'
+
+    def __init__(self, machine: Machine, place: Place) -> None:
+        super().__init__(machine, place, f'node{place.name}')
+        self.memory, self.clients = machine.memory, len(machine.config.leads) + 1
+        self.door = machine.pipes / self.log / 'clients'
         self.door.mkdir(parents=True)
-        self.links = {client: Link(pipes, client) for client in range(1, self.clients + 1)}
-        self.attachments: dict[int, Attachment] = {}
+        self.links = {client: Link(self.door.parent, client)
+                      for client in range(1, self.clients + 1)}
+        self.ways: dict[str, Way] = {}
         self.watch = Watch(self.links[self.clients])
-        self.state, self.why = 'off', ''
-        self.child: Child | None = None
-        self.pause = Pause()
-        self.is_wanted, self.starts = True, 0
-        self.watching: asyncio.Task[None] | None = None
-        self.on_joined: Callable[[], None] = lambda: None
-        self.on_death: Callable[[], None] = lambda: None
-        for link in self.links.values():
-            link.stand_in()
+        self.watching: Optional[asyncio.Task[None]] = None
+        self.stand_in()
 
-    @property
-    def is_held(self) -> bool:
-        return self.name in self.memory.get('held')
-
-    @property
-    def answers(self) -> bool:
-        """Whether it answered lately."""
-        return self.state == 'answering'
-
-    def set_state(self, state: str, why: str = '') -> None:
-        if (state, why) != (self.state, self.why):
-            self.state, self.why = state, why
-            self.note(f'node {self.name}: {state}{": " + why if why else ""}')
-
-    async def run(self) -> None:
-        """Keeps the node until it isn't wanted any more."""
-        while self.is_wanted:
-            if self.is_held:
-                self.set_state('held')
-                await self.pause.sleep(None)
-            elif not await self.may_start():
-                await self.pause.sleep(None if self.state == 'refused' else 1)
-            else:
-                await self.live()
-        self.set_state('off')
+    async def live(self) -> None:
+        if self.name in self.memory.get('held'):
+            self.set_state('held')
+            await self.pause.sleep(None)
+        elif await self.may_start():
+            await self.serve()
+        else:
+            await self.pause.sleep(None if self.state == 'refused' else 1)
 
     async def may_start(self) -> bool:
-        """Whether the folder is the node's own, and may be served by the launcher's check, which is `node` at an empty input."""
-        limit = self.settings.folder_limit
+        """Whether the folder is the node's own, and the launcher's check lets it be served."""
+        limit, path, memory = self.settings.folder_limit, self.place.path, self.memory
         try:
-            if self.name in self.memory.get('began') and not await in_thread(limit, has_node_files, self.folder):
-                self.set_state('lost', f'its files are gone from {self.place.path}, and an empty folder would forget what it answered: "A lost '
-                               'machine" in docs/OPERATING.md')
+            has_files = await in_thread(limit, has_node_files, self.folder)
+            if self.name in memory.get('began') and not has_files:
+                self.set_state('lost', f'its files are gone from {path}, and an empty folder would '
+                               'forget what it answered: "A lost machine" in docs/OPERATING.md')
                 return False
             self.set_state('checking')
-            told = await in_thread(limit, prepare, self.folder, self.name, self.memory.get('folders'), self.door)
+            self.remember(await in_thread(limit, prepare, self.folder, self.name,
+                                          memory.get('folders')))
         except NotOwn as error:
-            self.set_state('refused', f'{self.place.path}: {error}; "A lost machine" in docs/OPERATING.md says when `adopt {self.name}` may take it')
+            self.set_state('refused', f'{path}: {error}; "A lost machine" in docs/OPERATING.md '
+                           f'says when `adopt {self.name}` may take it')
             return False
         except OSError as error:
-            self.set_state('pausing', f'{self.place.path}: {error.strerror or error}: make room, or mend its mode')
+            self.tell_unusable(error)
             return False
-        self.memory.put_folder(self.name, told)
         return not self.settings.launcher or await self.is_checked()
 
     async def is_checked(self) -> bool:
-        """Whether the launcher's check of the folder finds nothing that keeps it from being served."""
-        with self.open_log(f'node{self.name}') as log:
-            check = Child([str(self.settings.launcher), 'node'], self.folder, log, has_input=False)
-        if not await check.wait(self.settings.check_limit):
-            check.kill()
-            await check.wait(5)
+        """Whether the launcher's check, `node` at an empty input, lets the folder be served."""
+        with self.machine.open_log(self.log) as log:
+            check = Child([str(self.settings.launcher), 'node'], self.folder, log)
+        await check.end(self.settings.check_limit)
         check.close()
         if check.status == 0:
-            return self.is_wanted and not self.is_held
-        # (another process may have the folder for a moment; a disk may be mended; a bad file isn't by itself)
-        state = 'refused' if check.status in (1, 3, 5, 70) else 'pausing'
-        why = REASONS.get(check.status or 0, '')
-        self.set_state(state, f'the check of {self.place.path} ended with status {check.status}: {why} (cluster.run/node{self.name}.log)')
+            return self.is_wanted and self.name not in self.memory.get('held')
+        # (another process may have the folder for a moment; a disk may be mended; a bad file isn't)
+        self.set_state('refused' if check.status in (1, 3, 5, 70) else 'pausing',
+                       f'the check of {self.place.path} ended with status {check.status}: '
+                       f'{self.reasons.get(check.status, "")} (cluster.run/{self.log}.log)')
         return False
 
-    async def live(self) -> None:
-        """One life of the node. The leads' pipes are shown to it once it answered the watch; until then the keeper stands in."""
+    async def serve(self) -> None:
+        """One life. The leads' pipes are shown to it once it answered the watch."""
         for path in list(self.door.iterdir()):
             path.unlink()
         self.show(self.clients)
-        with self.open_log(f'node{self.name}') as log:
-            self.child = child = Child([str(self.settings.program), 'serve', str(self.clients)], self.folder, log)
-        self.starts += 1
+        child = self.start([self.settings.program, 'serve', self.clients, self.door], self.folder)
         self.set_state('starting')
         self.watching = asyncio.create_task(self.watch_it(child))
         await child.ended.wait()
         self.watching.cancel()
-        self.child = None
-        self.watch.forget()
-        for link in self.links.values():
-            link.stand_in()
+        self.child, self.watch.promise, self.watch.listed_at = None, None, 0.0
+        self.stand_in()
         said = read_some(child.output).decode('utf-8', 'replace').strip()
         child.close()
-        if self.is_wanted and not self.is_held:
-            why = REASONS.get(child.status or 0, '')
-            self.set_state('pausing', f'it ended with status {child.status} {said}: {why}'.rstrip(': '))
-            self.on_death()
-            await self.pause.after(asyncio.get_running_loop().time() - child.began)
+        if self.is_wanted and self.name not in self.memory.get('held'):
+            await self.rest(child, said)
 
     def show(self, client: int) -> None:
         """Lets the node have a client's pipes, which it looks for each 100 ms."""
-        link = self.links[client]
-        link.stand_aside()
-        for path in link.paths:
-            (self.door / path.name).symlink_to(path)
+        self.links[client].stand_aside()
+        self.links[client].show(self.door, client)
+
+    def stand_in(self) -> None:
+        for link in self.links.values():
+            link.stand_in()
 
     async def watch_it(self, child: Child) -> None:
-        """Asks the node again and again. One that is silent too long is killed, and nobody waits for it from then on."""
-        limit, opened = self.settings.watch_limit, asyncio.Event()
-        opening = asyncio.create_task(self.watch.open(opened))
-        has_opened = await child.wait_while_busy(opened, limit, self.settings.start_limit)
+        """Asks the node again and again. One that is silent too long is killed."""
+        limit, has_opened = self.settings.watch_limit, asyncio.Event()
+        opening = asyncio.create_task(self.watch.open(has_opened))
+        is_open = await child.wait_while_busy(has_opened, limit, self.settings.start_limit)
         opening.cancel()
-        while not child.ended.is_set():
-            if not has_opened or not await self.watch.look(limit, self.settings.manifest_each):
-                self.set_state('hanging', f'no answer in {limit:g} s: it is killed')
-                child.kill()
-                for link in self.links.values():
-                    link.stand_in()
-                return
-            if self.name not in self.memory.get('began') and (self.watch.promise or self.watch.count):
+        while is_open and await self.watch.look(limit, self.settings.manifest_each):
+            if self.watch.promise or self.watch.count:
                 self.memory.note('began', self.name, True)
             if self.state == 'starting':
                 for client in range(1, self.clients):
                     self.show(client)
                 self.set_state('answering')
-                self.on_joined()
+                self.machine.looked_for.set()
             await asyncio.sleep(self.settings.watch_each)
+        self.set_state('hanging', f'no answer in {limit:g} s: it is killed')
+        child.kill()
+        self.stand_in()
 
-    def kill(self) -> bool:
-        if self.child:
-            self.child.kill()
-        return self.child is not None
-
-    async def stop(self) -> None:
-        """Ends the node: its input ends, and each session is; one that doesn't end soon is killed."""
-        child = self.child
-        if not child:
-            return
+    async def end_child(self) -> None:
         if self.watching:
             self.watching.cancel()
-        child.end_input()
-        end = asyncio.get_running_loop().time() + self.settings.stop_limit
-        while asyncio.get_running_loop().time() < end:
-            end_sessions(self.links.values())
-            if await child.wait(0.05):
-                return
-        child.kill()
-        await child.wait(5)
+        await super().end_child()
 
     async def adopt(self) -> None:
-        """Takes the folder that stands there as the node's own. OSError where it has no files of a node, or can't be written."""
+        """Takes the folder as the node's own; OSError where that has no files or can't be used."""
         if not await in_thread(self.settings.folder_limit, has_node_files, self.folder):
-            raise OSError('it has no files of a node: an empty folder would forget what the node answered')
-        self.memory.put_folder(self.name, await in_thread(self.settings.folder_limit, write_number, self.folder))
+            raise OSError('it has no files of a node: an empty folder would forget what the node '
+                          'answered')
+        self.remember(await in_thread(self.settings.folder_limit, write_number, self.folder))
         self.pause.wake()
 
-    async def attach(self, lead: str, client: int, send: Callable[[dict[str, Any]], None]) -> bool:
-        """Ties a client's pipes to another machine, once its session of before is ended; a newer tie ends the older."""
-        self.detach(client)
-        if not await self.links[client].flush(self.settings.flush_limit) or client in self.attachments:
+    def remember(self, folder: dict[str, Any]) -> None:
+        self.memory.put('folders', {**self.memory.get('folders'), self.name: folder})
+
+    async def attach(self, lead: str, wire: Wire) -> bool:
+        """Ties a lead elsewhere to its pipes here, once its session of before is ended."""
+        if lead in self.machine.leads:
+            raise ValueError(f'the lead {lead} is here')
+        link = self.links[self.machine.config.client_of(lead)]
+        way = Way(f'{self.name} {lead}', link.replies, link.requests)
+        if way.key in self.ways:
+            self.ways.pop(way.key).close()
+        if not await link.flush(self.settings.flush_limit) or way.key in self.ways:
             return False
-        self.attachments[client] = Attachment(self.name, lead, self.links[client], send)
+        self.ways[way.key] = way
+        way.open(wire)
         return True
 
-    def detach(self, client: int) -> None:
-        if client in self.attachments:
-            self.attachments.pop(client).close()
-
     def told(self) -> dict[str, Any]:
-        """What is known of it."""
-        return {'number': int(self.name), 'folder': self.place.folder, 'state': self.state, 'why': self.why,
-                'pid': self.child.pid if self.child else None, 'starts': self.starts, **self.watch.told()}
+        return {**super().told(), 'number': int(self.name), **self.watch.told()}

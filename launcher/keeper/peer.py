@@ -1,158 +1,130 @@
-"""Another machine: one relay to its keeper, over which beats, commands and the bytes between leads here and nodes there go."""
-from __future__ import annotations
-
+"""Another machine: a relay to its keeper, over which beats, commands and bytes of pipes go."""
 import asyncio
-import json
 import os
+import shlex
 from pathlib import Path
-from typing import IO, Any, Callable
+from typing import Optional
 
-from .attachment import FarLink
-from .child import Child, Pause
-from .config import Config, MachineLine
-from .pipes import Outlet
-from .relay import words_to
-from .settings import Settings
-from .statuses import NO_KEEPER, NOT_GIVEN, UNKNOWN, Reply, refusal
+from .config import Config, Place
+from .emulated import Link
+from .kept import Kept, Machine, Pause, age_of
+from .pipes import Outlet, now
+from .settings import NO_KEEPER, SOCKET, Reply
+from .wire import LONGEST, Way, Wire
 
 HELLO_LIMIT = 10.0
+SSH = ['ssh', '-T', '-o', 'BatchMode=yes', '-o', 'ConnectTimeout=3', '-o', 'ServerAliveInterval=2',
+       '-o', 'ServerAliveCountMax=2']
 
 
-class Peer:
-    """A machine. `state` is one of connecting, connected, pausing; `is_gone` where it answered that no keeper runs there."""
+def words_to(config: Config, machine: Place) -> list[str]:
+    """The relay to a keeper's socket: by ssh `attach` runs there; for socat it listens itself."""
+    if config.relay[0] == 'socat':
+        _, port, pem, ca = config.relay
+        return ['socat', '-', f'OPENSSL:{machine.address}:{port},cert={pem},cafile={ca},verify=1,'
+                'connect-timeout=3']
+    return [*SSH, *config.relay[1:], machine.address, f'exec {os.environ.get("QJM_REMOTE", "qjm")} '
+            f'cluster -C {shlex.quote(machine.folder)} attach']
 
-    def __init__(self, line: MachineLine, config: Config, top: Path, settings: Settings, open_log: Callable[[str], IO[bytes]],
-                 note: Callable[[str], None]) -> None:
-        self.line, self.name, self.config, self.top, self.settings = line, line.name, config, top, settings
-        self.open_log, self.note = open_log, note
-        self.links: dict[str, FarLink] = {}
-        self.state, self.why, self.is_gone = 'connecting', '', False
-        self.outlet: Outlet | None = None
-        self.rest, self.count = b'', 0
-        self.asked: dict[int, asyncio.Future[Reply]] = {}
-        self.tying: set[str] = set()
-        self.tasks: set[asyncio.Task[None]] = set()
-        self.heard_at, self.clock_ahead = 0.0, 0.0
-        self.pause = Pause(least=0.2, most=1.0, long_life=10.0)
-        self.is_wanted = True
-        self.on_beat: Callable[[Peer, Reply], None] = lambda peer, told: None
-        self.on_lost: Callable[[Peer], None] = lambda peer: None
 
-    def set_state(self, state: str, why: str = '') -> None:
-        if (state, why) != (self.state, self.why):
-            self.state, self.why = state, why
-            self.note(f'machine {self.name}: {state}{": " + why if why else ""}')
+def words_to_listen(config: Config) -> list[str]:
+    """What listens for other machines' relays; nothing where sshd does."""
+    if config.relay[0] != 'socat' or not config.others:
+        return []
+    _, port, pem, ca = config.relay
+    return ['socat', f'OPENSSL-LISTEN:{port},reuseaddr,fork,cert={pem},cafile={ca},verify=1',
+            f'UNIX-CONNECT:{SOCKET}']
 
-    async def run(self) -> None:
-        """Keeps the relay until it isn't wanted any more."""
-        while self.is_wanted:
-            with self.open_log(f'relay-{self.name}') as log:
-                child = Child(words_to(self.config, self.line), self.top, log)
-            self.outlet, self.rest = Outlet(child.input), b''
-            asyncio.get_running_loop().add_reader(child.output, self.hear, child)
-            talking = asyncio.create_task(self.talk())
-            ended = asyncio.create_task(child.ended.wait())
-            try:
-                await asyncio.wait([talking, ended], return_when=asyncio.FIRST_COMPLETED)
-            finally:
-                why = self.close_way(child, talking)
-                ended.cancel()
-            await child.wait(5)
-            child.close()
-            self.is_gone = child.status == NO_KEEPER
-            was_connected = self.state == 'connected'
-            self.set_state('pausing', why or ('no keeper runs there' if self.is_gone else f'the relay ended with status {child.status} '
-                                              f'(cluster.run/relay-{self.name}.log)'))
-            if was_connected:
-                self.on_lost(self)
-            await self.pause.after(asyncio.get_running_loop().time() - child.began)
 
-    def close_way(self, child: Child, talking: asyncio.Task[str]) -> str:
-        """Ends a relay: nobody waits for what went over it. Why, where that is known here."""
-        why = ''
-        if talking.done() and not talking.cancelled():
-            why = repr(talking.exception()) if talking.exception() else talking.result()
-        talking.cancel()
-        child.kill()
-        if self.outlet:
-            self.outlet.close()
-        self.outlet = None
-        asyncio.get_running_loop().remove_reader(child.output)
-        for link in self.links.values():
-            link.detach()
-        for future in self.asked.values():
-            if not future.done():
-                future.set_result(refusal(UNKNOWN, f'the way to the machine {self.name} broke before it answered'))
-        return why
+class FarLink(Link):
+    """The pipes of a lead here to a node elsewhere; while there is no way the keeper stands in."""
 
-    def hear(self, child: Child) -> None:
-        """Takes what came: replies, and bytes of nodes there."""
+    def __init__(self, folder: Path, client: int, node: str, lead: str) -> None:
+        super().__init__(folder, client)
+        self.node, self.lead = node, lead
+        self.way = Way(f'{node} {lead}', self.requests, self.replies)
+        self.stand_in()
+
+
+class Listener(Kept):
+    """What listens for the relays of other machines, in the cluster's folder."""
+    kind = 'listener'
+
+    async def live(self) -> None:
+        child = self.start(words_to_listen(self.machine.config), self.machine.top)
+        await child.ended.wait()
+        child.close()
+        self.set_state('pausing', f'what listens ended with status {child.status}')
+        await self.pause.after(now() - child.began)
+
+
+class Peer(Kept):
+    """A machine: connecting, connected or pausing; `is_gone` where no keeper runs there."""
+    kind, well = 'machine', 'connected'
+
+    def __init__(self, machine: Machine, line: Place) -> None:
+        super().__init__(machine, line, f'relay-{line.name}')
+        self.config, self.state, self.pause = machine.config, 'connecting', Pause(0.2, 1.0, 10.0)
+        self.links: list[FarLink] = []
+        self.wire: Optional[Wire] = None
+        self.deaths: Optional[int] = None
+        self.is_gone, self.heard_at, self.clock_ahead = False, 0.0, 0.0
+
+    def told(self) -> Reply:
+        return {'name': self.name, 'state': self.state, 'why': self.why,
+                'heard': age_of(self.heard_at), 'clock_ahead': round(self.clock_ahead, 2)}
+
+    async def live(self) -> None:
+        """Keeps a relay until it ends, or the keeper there doesn't answer in time."""
+        child = self.start(words_to(self.config, self.place), self.machine.top)
+        reader, outlet = asyncio.StreamReader(LONGEST), Outlet(child.input)
+        await asyncio.get_running_loop().connect_read_pipe(
+            lambda: asyncio.StreamReaderProtocol(reader), child.stdout)
+        wire = self.wire = Wire(reader, outlet.write)
+        tasks = [asyncio.create_task(wire.run()), asyncio.create_task(self.talk(wire))]
         try:
-            data = os.read(child.output, 1 << 16)
-        except BlockingIOError:
-            return
-        if not data:
-            asyncio.get_running_loop().remove_reader(child.output)
-            return
-        *lines, self.rest = (self.rest + data).split(b'\n')
-        for line in lines:
-            try:
-                told = json.loads(line)
-                if 'to' in told:
-                    self.links[told['to']].take(told['data'].encode('latin-1'))
-                elif told['id'] in self.asked and not self.asked[told['id']].done():
-                    self.asked[told['id']].set_result(told)
-            except (ValueError, KeyError, TypeError, AttributeError):
-                self.note(f'machine {self.name}: a line that is none: {line[:80]!r}')
-
-    def send(self, told: dict[str, Any]) -> None:
-        if self.outlet:
-            self.outlet.write(json.dumps(told).encode() + b'\n')
-
-    async def ask(self, asked: Reply, seconds: float) -> Reply:
-        """Has the keeper there do a command, for so many seconds at most."""
-        if not self.outlet:
-            return refusal(NOT_GIVEN, f'there is no way to the machine {self.name}')
-        self.count += 1
-        number = self.count
-        self.asked[number] = asyncio.get_running_loop().create_future()
-        self.send({**asked, 'id': number})
-        try:
-            return await asyncio.wait_for(self.asked[number], seconds)
-        except asyncio.TimeoutError:
-            return refusal(UNKNOWN, f'the machine {self.name} didn\'t answer in {seconds:g} s')
+            await asyncio.wait(tasks, return_when=asyncio.FIRST_COMPLETED)
+            why = '' if tasks[0].done() else str(tasks[1].exception() or tasks[1].result())
         finally:
-            del self.asked[number]
+            self.wire = None
+            for task in tasks:
+                task.cancel()
+            child.kill()
+            outlet.close()
+            await asyncio.wait([*tasks, asyncio.create_task(child.ended.wait())], timeout=5)
+            for link in self.links:
+                link.stand_in()
+        child.close()
+        self.child, self.is_gone = None, child.status == NO_KEEPER
+        why = 'no keeper runs there' if self.is_gone else why or \
+            f'the relay ended with status {child.status} (cluster.run/{self.log}.log)'
+        if self.is_gone and self.is_well:
+            self.machine.died_at = now()
+            self.machine.view.forget(self.name)
+        self.set_state('pausing', why)
+        self.machine.looked_for.set()
+        await self.pause.after(now() - child.began)
 
-    async def talk(self) -> str:
-        """Greets the keeper there, asks it each second, and ties the links; why that ended."""
-        told = await self.ask({'command': 'hello', 'machine': self.config.own, 'digest': self.config.digest()}, HELLO_LIMIT)
-        if told['status']:
-            return ' '.join(told['says'])
-        while True:
-            told = await self.ask({'command': 'beat'}, self.settings.peer_limit)
-            if told['status']:
-                return ' '.join(told['says'])
-            self.heard_at, self.is_gone = asyncio.get_running_loop().time(), False
+    async def talk(self, wire: Wire) -> str:
+        """Asks the keeper there each second, and ties the links; why that ended."""
+        beat = {'command': 'beat', 'machine': self.config.own, 'digest': self.config.digest()}
+        tying: dict[FarLink, asyncio.Task[None]] = {}
+        told = await wire.ask(HELLO_LIMIT, beat)
+        while not told['status']:
+            self.heard_at, self.is_gone = now(), False
             self.set_state('connected')
-            self.on_beat(self, told)
-            for link in self.links.values():
-                if not link.send and link.key not in self.tying:
-                    self.tying.add(link.key)
-                    task = asyncio.create_task(self.tie(link))
-                    self.tasks.add(task)
-                    task.add_done_callback(self.tasks.discard)
+            self.machine.view.take(self, told)
+            for link in self.links:
+                if not link.way.wire and (link not in tying or tying[link].done()):
+                    tying[link] = asyncio.create_task(self.tie(wire, link))
             await asyncio.sleep(self.settings.peer_each)
+            told = await wire.ask(self.settings.peer_limit, beat)
+        return ' '.join(told['says'])
 
-    async def tie(self, link: FarLink) -> None:
-        """Ties a lead here to a node there."""
-        node, lead = link.key.split(' ')
-        outlet = self.outlet
-        told = await self.ask({'command': 'tie', 'node': node, 'lead': lead}, self.settings.flush_limit + self.settings.peer_limit)
-        self.tying.discard(link.key)
-        if told['status'] == 0 and outlet is self.outlet:
-            link.attach(self.send)
-
-    async def stop(self) -> None:
-        self.is_wanted = False
-        self.pause.wake()
+    async def tie(self, wire: Wire, link: FarLink) -> None:
+        """Ties a lead here to a node there: what the lead writes goes out from now on."""
+        limit = self.settings.flush_limit + self.settings.peer_limit
+        told = await wire.ask(limit, {'command': 'tie', 'name': link.node, 'lead': link.lead})
+        if not told['status'] and wire is self.wire:
+            link.stand_aside()
+            link.way.open(wire)

@@ -1,10 +1,28 @@
-"""Named pipes of which the keeper holds both ends, so that no opening waits, and no end ever comes."""
-from __future__ import annotations
-
+"""Waits that have an end, and pipes that are read and written as far as that needs no wait."""
 import asyncio
 import os
-from pathlib import Path
-from typing import Any, Awaitable
+from time import monotonic as now
+from typing import Any, Awaitable, Callable, Optional
+
+
+async def comes(waiting: Awaitable[Any], seconds: Optional[float]) -> bool:
+    """Whether something comes in time. (`wait_for` may swallow a cancellation, up to 3.11.)"""
+    task = asyncio.ensure_future(waiting)
+    try:
+        await asyncio.wait([task], timeout=seconds)
+        return task.done()
+    finally:
+        task.cancel()
+
+
+async def until(is_so: Callable[[], bool], seconds: float) -> bool:
+    """Waits until something is so, at most so long."""
+    end = now() + seconds
+    while not is_so():
+        if now() >= end:
+            return False
+        await asyncio.sleep(0.02)
+    return True
 
 
 def read_some(fd: int) -> bytes:
@@ -24,33 +42,12 @@ def write_some(fd: int, data: bytes) -> bool:
         return False
 
 
-def make_pipe(path: Path) -> int:
-    """Makes a named pipe and holds both of its ends."""
-    os.mkfifo(path, 0o600)
-    return os.open(path, os.O_RDWR | os.O_NONBLOCK | os.O_CLOEXEC)
-
-
-async def comes(waiting: Awaitable[Any], seconds: float | None) -> bool:
-    """Whether something comes in so many seconds. (`wait_for` swallows a cancellation that comes with the event, before Python 3.12.)"""
-    task = asyncio.ensure_future(waiting)
-    try:
-        await asyncio.wait([task], timeout=seconds)
-        return task.done()
-    finally:
-        task.cancel()
-
-
 async def until_readable(fd: int, seconds: float) -> bool:
     """Waits until there are bytes, at most so long."""
-    loop = asyncio.get_running_loop()
-    ready: asyncio.Future[None] = loop.create_future()
-
-    def tell() -> None:
-        if not ready.done():
-            ready.set_result(None)
-    loop.add_reader(fd, tell)
+    loop, ready = asyncio.get_running_loop(), asyncio.Event()
+    loop.add_reader(fd, ready.set)
     try:
-        return await comes(ready, max(0.0, seconds))
+        return await comes(ready.wait(), max(0.0, seconds))
     finally:
         loop.remove_reader(fd)
 
@@ -59,11 +56,11 @@ class Outlet:
     """Writes to a descriptor as there is room; what finds none is kept until there is."""
 
     def __init__(self, fd: int) -> None:
-        self.fd, self.rest, self.is_waiting = fd, b'', False
+        self.fd, self.rest = fd, b''
 
     def write(self, data: bytes) -> None:
-        self.rest += data
-        if not self.is_waiting:
+        is_waiting, self.rest = bool(self.rest), self.rest + data
+        if not is_waiting:
             self._push()
 
     def _push(self) -> None:
@@ -71,21 +68,14 @@ class Outlet:
             while self.rest:
                 self.rest = self.rest[os.write(self.fd, self.rest[:1 << 16]):]
         except BlockingIOError:
-            pass
+            asyncio.get_running_loop().add_writer(self.fd, self._push)
+            return
         except OSError:
             # (who reads is gone, which is noticed where it is waited for)
-            self.rest = b''
-        if bool(self.rest) != self.is_waiting:
-            self.is_waiting = bool(self.rest)
-            loop = asyncio.get_running_loop()
-            if self.is_waiting:
-                loop.add_writer(self.fd, self._push)
-            else:
-                loop.remove_writer(self.fd)
+            pass
+        self.close()
 
     def close(self) -> None:
-        """Writes nothing more."""
+        """Writes nothing more of what was given so far."""
         self.rest = b''
-        if self.is_waiting:
-            self.is_waiting = False
-            asyncio.get_running_loop().remove_writer(self.fd)
+        asyncio.get_running_loop().remove_writer(self.fd)

@@ -21,10 +21,11 @@ if fault.startswith('exit '):
 
 def serve(client: int) -> None:
     while True:
-        if not os.path.exists(f'clients/{client}.replies'):
+        if not os.path.exists(f'{sys.argv[3]}/{client}.replies'):
             time.sleep(0.1)
             continue
-        with open(f'clients/{client}.requests') as requests, open(f'clients/{client}.replies', 'w') as replies:
+        pipes = f'{sys.argv[3]}/{client}'
+        with open(f'{pipes}.requests') as requests, open(f'{pipes}.replies', 'w') as replies:
             for line in requests:
                 while fault == 'hang':
                     time.sleep(1)
@@ -42,8 +43,9 @@ if sys.argv[1] == 'serve':
         threading.Thread(target=serve, args=(client,), daemon=True).start()
     sys.stdin.read()
     os._exit(0)
-# (where the environment names a file of epochs, a lead that was overtaken learns it from there)
-epochs, epoch, taken, txid = Path(os.environ.get('FAKE_EPOCHS', '/dev/null')), 1, False, 1
+# (a lead that was overtaken learns it from a file of epochs, beside the folders)
+epochs, epoch, taken, txid = Path(os.environ.get('FAKE_EPOCHS', '../epochs')), 1, False, 1
+epochs.touch()
 for line in sys.stdin:
     word, _, rest = line.strip().partition(' ')
     if word == 'takeover':
@@ -53,6 +55,11 @@ for line in sys.stdin:
     elif word in ('roll', 'log') and epochs.read_text() and int(epochs.read_text()) > epoch:
         taken = False
         print('= roll inactive' if word == 'roll' else '= inactive')
+    elif word == 'state':
+        print('= active' if taken else '= standby', epoch)
+    elif word == 'close':
+        taken = False
+        print('= close 9')
     elif word == 'tail':
         print('= active' if taken else '= tail 0')
     elif word == 'roll':

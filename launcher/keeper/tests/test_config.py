@@ -6,12 +6,9 @@ import unittest
 from pathlib import Path
 from unittest import mock
 
-from keeper.checks import check_folders, check_room, check_tools
-from keeper.config import load_config, read_config
-from keeper.memory import Memory
-from keeper.node_folder import NotOwn, has_node_files, prepare, told_of, write_number
-from keeper.emulated import show_pipes
-from keeper.relay import words_to, words_to_listen
+from keeper.config import check_folders, check_room, check_tools, load_config, read_config
+from keeper.remembered import Memory, NotOwn, has_node_files, prepare, told_of, write_number
+from keeper.peer import words_to, words_to_listen
 from keeper.settings import Settings
 
 GOOD = 'node 1 n1\nnode 2 n2\nnode 3 n3\nlead a a\nlead b b\n'
@@ -136,44 +133,41 @@ class FoldersTest(unittest.TestCase):
         (self.top / 'bad.json').write_text('{')
         self.assertIn('can\'t be read', Memory(self.top / 'bad.json').fault)
 
-    def test_links(self) -> None:
-        (self.top / 'old').mkdir()
-        show_pipes(self.top / 'old', self.top)
-        show_pipes(self.top / 'old', self.top)
-        self.assertEqual(os.readlink(self.top / 'old'), str(self.top))
+    def test_files_of_a_node(self) -> None:
+        self.assertFalse(has_node_files(self.top / 'none'))
         self.assertFalse(has_node_files(self.top))
         (self.top / 'edits_0000000000000000009-0000000000000000010').touch()
         self.assertTrue(has_node_files(self.top))
 
     def make(self, name: str, folders: dict) -> Path:
         folder = self.top / name
-        folders[name] = prepare(folder, name, folders, self.top)
+        folders[name] = prepare(folder, name, folders)
         (folder / 'last-promised-epoch').touch()
         return folder
 
     def test_a_folder_of_its_own(self) -> None:
         folders: dict = {}
         one, two = self.make('1', folders), self.make('2', folders)
-        self.assertEqual(prepare(one, '1', folders, self.top), folders['1'])
+        self.assertEqual(prepare(one, '1', folders), folders['1'])
         shutil.rmtree(two)
         shutil.copytree(one, two, symlinks=True)
         with self.assertRaisesRegex(NotOwn, 'a copy of the folder of node 1'):
-            prepare(two, '2', folders, self.top)
+            prepare(two, '2', folders)
         one.rename(self.top / 'old')
         shutil.copytree(self.top / 'old', one, symlinks=True)
         with self.assertRaisesRegex(NotOwn, 'an older one'):
-            prepare(one, '1', folders, self.top)
+            prepare(one, '1', folders)
         folders['1'] = write_number(one)
-        self.assertEqual(prepare(one, '1', folders, self.top)['number'], folders['1']['number'])
+        self.assertEqual(prepare(one, '1', folders)['number'], folders['1']['number'])
 
     def test_a_device_may_get_another_number(self) -> None:
         folders: dict = {}
         one = self.make('1', folders)
         folders['1']['device'] += 1
-        self.assertEqual(prepare(one, '1', folders, self.top), told_of(one, folders['1']['number']))
+        self.assertEqual(prepare(one, '1', folders), told_of(one, folders['1']['number']))
         folders['1'].update(device=folders['1']['device'] + 1, system=0)
         with self.assertRaises(NotOwn):
-            prepare(one, '1', folders, self.top)
+            prepare(one, '1', folders)
 
 
 if __name__ == '__main__':

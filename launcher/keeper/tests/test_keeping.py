@@ -7,17 +7,15 @@ import unittest
 from pathlib import Path
 
 from keeper.automatic import Automatic
-from keeper.child import Pause
+from keeper.kept import Pause
 from keeper.commands import Commands
 from keeper.config import load_config
-from keeper import machine
 from keeper.machine import Machine
-from keeper.metrics import metrics_of
 from keeper.settings import Settings
-from keeper.shown import text_of
+from keeper.shown import metrics_of, text_of
 
 FAKE = Path(__file__).with_name('fake_qjm.py')
-machine.note = lambda text: None
+Machine.note = lambda machine, text: None
 CONF = 'node 1 n1\nnode 2 n2\nnode 3 n3\nlead a a\nlead b b\n'
 
 
@@ -84,7 +82,7 @@ class KeepingTest(unittest.IsolatedAsyncioTestCase):
             self.assertEqual((await self.do('kill', kind='node', name=name))['status'], 0)
         self.assertEqual((await self.do('kill', kind='lead', name='b'))['status'], 0)
         node = self.machine.nodes[0]
-        self.assertTrue(await self.machine.until(lambda: node.starts == 2 and node.answers, 40))
+        self.assertTrue(await self.machine.until(lambda: node.starts == 2 and node.is_well, 40))
         self.assertTrue(await self.machine.until(lambda: self.machine.leads['b'].starts == 2, 40))
         self.assertEqual((await self.do('up'))['status'], 0)
 
@@ -114,7 +112,7 @@ class KeepingTest(unittest.IsolatedAsyncioTestCase):
         await self.begin(start_limit=1.0)
         self.assertEqual(self.up['status'], 2)
         (self.top / 'n2/fault').unlink()
-        self.assertTrue(await self.machine.until(lambda: self.machine.nodes[1].answers, 40))
+        self.assertTrue(await self.machine.until(lambda: self.machine.nodes[1].is_well, 40))
 
     async def test_folders_that_aren_t_served(self) -> None:
         (self.top / 'n1').mkdir()
@@ -144,7 +142,7 @@ class KeepingTest(unittest.IsolatedAsyncioTestCase):
         self.assertIn('a copy of the folder of node 1', released['says'][0])
         self.assertEqual((await self.do('adopt', name='1'))['status'], 1)
         self.assertEqual((await self.do('adopt', name='2'))['status'], 0)
-        self.assertTrue(await self.machine.until(lambda: self.machine.nodes[1].answers, 40))
+        self.assertTrue(await self.machine.until(lambda: self.machine.nodes[1].is_well, 40))
 
     async def test_status_tells_what_was_observed(self) -> None:
         await self.begin()
@@ -155,7 +153,7 @@ class KeepingTest(unittest.IsolatedAsyncioTestCase):
         self.assertEqual((node['promise'], node['last'], node['segments'], node['lag'], node['counts']), (7, 6, 2, 0, True))
         self.assertLess(node['answered'], 1.5)
         await self.do('kill', kind='node', name='1')
-        self.assertTrue(await self.machine.until(lambda: self.machine.nodes[0].starts == 2 and self.machine.nodes[0].answers, 40))
+        self.assertTrue(await self.machine.until(lambda: self.machine.nodes[0].starts == 2 and self.machine.nodes[0].is_well, 40))
         told = await self.do('status')
         self.assertEqual((told['status'], told['nodes'][0]['counts']), (10, False))
         self.assertIn('left it out', told['nodes'][0]['why'])
@@ -201,7 +199,7 @@ class KeepingTest(unittest.IsolatedAsyncioTestCase):
         await self.do('auto', on=True)
         self.assertTrue(await self.machine.until(lambda: self.machine.active is self.machine.leads['a'], 5))
         await asyncio.sleep(0.5)
-        self.machine.leads['a'].is_active = False
+        await self.do('tell', name='a', line='close')
         self.assertFalse(await self.machine.until(lambda: self.machine.active is not None, 1.5))
         self.assertTrue(await self.machine.until(lambda: self.machine.active is self.machine.leads['b'], 5))
         automatic.cancel()
@@ -223,7 +221,8 @@ class KeepingTest(unittest.IsolatedAsyncioTestCase):
         (self.top / 'n2/clients').symlink_to(self.top / 'n1/clients')
         await self.begin()
         self.assertEqual(self.up['status'], 0)
-        self.assertEqual((self.top / 'n2/clients').resolve(), (self.top / 'cluster.run/pipes/node2/clients').resolve())
+        self.assertEqual(sorted(path.name for path in (self.top / 'n1/clients').iterdir()), ['1.requests', 'node.pid'])
+        self.assertEqual(sorted(path.name for path in (self.top / 'n3').iterdir()), ['keeper', 'last-promised-epoch'])
 
     async def test_pause_grows(self) -> None:
         pause = Pause(least=0.001, most=0.004)

@@ -21,7 +21,9 @@ class PipesTest(unittest.IsolatedAsyncioTestCase):
         self.link = Link(Path(self.folder.name), 1)
 
     async def asyncTearDown(self) -> None:
-        self.link.close()
+        self.link.stand_aside()
+        for fd in (self.link.requests, self.link.replies):
+            os.close(fd)
         self.folder.cleanup()
 
     async def within(self, call, seconds: float = 5):
@@ -30,6 +32,8 @@ class PipesTest(unittest.IsolatedAsyncioTestCase):
     async def test_a_dead_node_s_caller_is_let_go(self) -> None:
         self.link.stand_in()
         for line in (b'#1 1 state .\n', b'#1 2 accept ' + b'7' * (1 << 20) + b' .\n'):
+            # (as before each line of a lead)
+            self.link.clear_replies()
             self.assertEqual(await self.within(asyncio.to_thread(ask, self.link, line)), BAD)
 
     async def test_who_waits_as_the_node_dies_is_let_go(self) -> None:
@@ -37,12 +41,10 @@ class PipesTest(unittest.IsolatedAsyncioTestCase):
         waiting = asyncio.create_task(asyncio.to_thread(ask, self.link, b'#1 1 state .\n'))
         await asyncio.to_thread(os.read, node, 64)
         os.close(node)
-        self.link.is_awaited = lambda: True
         self.link.stand_in()
         self.assertEqual(await self.within(waiting), BAD)
 
     async def test_none_is_let_go_twice(self) -> None:
-        self.link.is_awaited = lambda: True
         os.write(self.link.requests, b'#1 1 state .\n')
         self.link.stand_in()
         self.assertEqual(os.read(self.link.replies, 64), BAD)
