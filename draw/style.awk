@@ -1,12 +1,17 @@
 # Colours, classes and the legend.
 
-function print_style(    i) {
+# The colours of both pages, and the classes of the epochs' colours.
+function print_colours(    i) {
   print ":root{color-scheme:light dark;--bg:#fff;--fg:#1b1f24;--mu:#5c6675;--ln:#cdd2da;--ok:#14713a;--bad:#b3202a;--dn:#7d8591;" \
     "--dk:#2b3038;--k9:#6f7988" palette("#2563eb #c2570c #8b34d6 #0e8088 #c02672 #8a5a1e #4a45c9 #66750f") "}"
   print "@media(prefers-color-scheme:dark){:root{--bg:#14171c;--fg:#e6e9ee;--mu:#98a2b0;--ln:#3a414c;--ok:#5fd38d;--bad:#ff7b7b;" \
     "--dn:#8b93a0;--dk:#d5dae2;--k9:#98a2b0" palette("#7aa7ff #ff9d5c #c99bff #4fd0d8 #ff86bd #d9a866 #a5a1ff #c3d05a") "}}"
   for (i = 0; i <= 9; i++) if (i != 8) printf ".e%d{--c:var(--k%d)}", i, i
   print ""
+}
+
+function print_style() {
+  print_colours()
   print "text{font:12px system-ui,sans-serif;fill:var(--fg)}.pt,.hn,.lost,.lo,.an{text-anchor:middle}.pt{font-size:11px}"
   print ".hn{font-weight:700;font-size:13px}.an{font-weight:700}.lost,.lo{paint-order:stroke;stroke:var(--bg);stroke-width:3px}"
   print ".l1{font-weight:600}.l2,.lo{fill:var(--mu);font-size:11px}.gh{font-weight:700;font-size:13px}"

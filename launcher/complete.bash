@@ -6,13 +6,14 @@
 # The words that may stand at the cursor, behind those before it.
 _qjm_words() {
   case $COMP_CWORD,${COMP_WORDS[1]-} in
-    1,*) echo 'play run piped mirror boot gen node serve lead cluster fsck judge oev oiv draw tour rules test help --build --package --use --version --help' ;;
-    2,help) echo 'play run piped mirror boot gen node serve lead cluster fsck judge oev oiv draw tour rules test --build --package --use --version' ;;
+    1,*) echo 'play run piped mirror boot gen node serve lead cluster fsck judge states oev oiv draw tour rules test help --build --package --use --version --help' ;;
+    2,help) echo 'play run piped mirror boot gen node serve lead cluster fsck judge states oev oiv draw tour rules test --build --package --use --version' ;;
     2,oev) echo 'list stats json back' ;;
     2,oiv) echo 'delimited sizes json ls' ;;
     2,node) echo '--unchecked' ;;
     2,--version) echo '--check' ;;
     2,cluster) echo 'up down status check log failover auto restart tell checkpoint trim kill hold release adopt metrics keep' ;;
+    2,draw) echo '--steps --live --svg --whole' ;;
     *,draw) echo '--svg --whole' ;;
     2,tour) echo 'two-writers fenced-writer torn-write late-copy standby purge' ;;
   esac

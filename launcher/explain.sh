@@ -57,7 +57,7 @@ show_line() {
 find_fault() {
   if [ -n "$output" ]; then
     cat "$output"
-  elif [ "$status" -gt 4 ] || { [ "$1" = judge ] && [ -z "$again" ]; }; then
+  elif [ "$status" -gt 4 ] || { is_among "$1" "$REPORT_COMMANDS" && [ -z "$again" ]; }; then
     return
   elif [ "$*" != node ]; then
     open_input_again
@@ -89,14 +89,25 @@ tell_cause() {
   LC_ALL=C awk -v line="$1" -v rule="$2" -v kind="$3" -v lacks_end="${4-}" -f "$top/launcher/line.awk" <"$again"
 }
 
+# The command whose rules a command's lines are to keep.
+rules_of() {
+  if is_among "$1" "$REPORT_COMMANDS"; then
+    echo judge
+  elif [ "$1" = node ]; then
+    echo node
+  else
+    echo play
+  fi
+}
+
 # Says what is wrong with a line: the one cause where it is seen, else all that breaks the rule, as of each line of a report.
 explain_line() {
   cause=''
-  [ "$command" = judge ] || cause=$(tell_cause "$1" "$2" "$command")
+  is_among "$command" "$REPORT_COMMANDS" || cause=$(tell_cause "$1" "$2" "$command")
   if [ -n "$cause" ]; then
     printf '%s\n' "line $1, $cause (rule $2)" | say_lines
   else
-    look_up "rules of $(is_among "$command" 'node judge' && echo "$command" || echo play)" "$2" | sed "s/^/line $1 breaks rule $2: /" | say_lines
+    look_up "rules of $(rules_of "$command")" "$2" | sed "s/^/line $1 breaks rule $2: /" | say_lines
   fi
   [ -z "$again" ] || show_line "$1"
 }
@@ -250,7 +261,7 @@ explain() {
     error\ BadBytes\ *) explain_bad_file $fault ;;
     *)
       meaning=$status
-      [ "$status$command" != 5judge ] || meaning='5, judge'
+      [ "$status" -ne 5 ] || ! is_among "$command" "$REPORT_COMMANDS" || meaning='5, judge'
       cell statuses "$meaning" 1 | say_lines
       explain_fault $fault
       tell_reason "$@"

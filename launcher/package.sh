@@ -38,7 +38,7 @@ copy_texts() {
 
 # Lays out the program, its record, and what the launcher runs and reads, in the folder $1.
 lay_out_launcher() {
-  mkdir -p "$1/draw" "$1/docs" "$1/examples/stories"
+  mkdir -p "$1/draw/steps" "$1/docs" "$1/examples/stories"
   install -m 755 "$program" "$1/program"
   write_record "$(kit_of_program)" >"$1/record"
   copy_texts "$1" "$top/qjm"
@@ -48,6 +48,7 @@ lay_out_launcher() {
     copy_words "$top/launcher/$name" "$1/launcher/$name"
   done
   copy_texts "$1/draw" "$top"/draw/*.awk
+  copy_texts "$1/draw/steps" "$top"/draw/steps/*
   # (the launcher reads its tables; the folder of documents is for reading alone, and some systems leave it out)
   copy_texts "$1/docs" "$top/docs/FORMATS.md"
   install -m 644 "$top"/examples/stories/*.qjm "$1/examples/stories"
@@ -60,7 +61,7 @@ lay_out_documents() {
   mkdir -p "$1/docs" "$1/examples/stories" "$1/licences"
   copy_texts "$1" "$top/README.md" "$top/LICENSE" "$top/NOTICE"
   copy_texts "$1/docs" "$top"/docs/*.md
-  install -m 644 "$top"/docs/*.svg "$1/docs"
+  install -m 644 "$top"/docs/*.svg "$top"/docs/*.png "$1/docs"
   install -m 644 "$top"/examples/*.* "$1/examples"
   install -m 644 "$top"/examples/stories/*.qjm "$1/examples/stories"
   copy_licences "$1/licences"

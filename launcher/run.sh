@@ -10,12 +10,12 @@ again='' output=''
 # Opens what the program is to read as descriptor 3. A script that stands in no file is kept in one first.
 open_input() {
   case $1 in
-    play | run | piped | mirror | boot | node | judge) exec 3<&0 ;;
+    play | run | piped | mirror | boot | node | judge | states) exec 3<&0 ;;
     *) exec 3</dev/null; return ;;
   esac
   if is_input_a_file; then
     again=/dev/fd/3
-  elif ! is_among "$1" 'node judge' && [ ! -d /dev/stdin ]; then
+  elif ! is_among "$1" "node $REPORT_COMMANDS" && [ ! -d /dev/stdin ]; then
     keep_input
   fi
 }
@@ -144,7 +144,7 @@ tell_fault_of_sources() {
 run_or_try() {
   case $1 in
     play | run | piped | mirror | boot) greet_terminal 'a script' ;;
-    judge) greet_terminal 'a report' ;;
+    judge | states) greet_terminal 'a report' ;;
   esac
   open_input "${1-}"
   if choose_program; then

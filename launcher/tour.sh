@@ -33,6 +33,7 @@ tell_story() {
   story=$1 text='' title=''
   : >"$room/script"
   : >"$room/before"
+  : >"$room/told"
   while IFS= read -r line <&4; do
     case $line in
       '') begin_story "$text"; text='' ;;
@@ -51,6 +52,7 @@ begin_story() {
   title=${title# }
   printf '\n== %s (%s of %s)\n' "$title" "$number" "$count"
   printf '%s\n' "${1#*. }" | fold_text
+  printf '\t%s\n' "${1#*. }" >>"$room/told"
 }
 
 # Plays the script up to this line, and shows the line with its sentence and what came of it. Fails where the reader has enough.
@@ -61,6 +63,7 @@ tell_line() {
   printf '%s\n' "${2# }" | fold_text
   printf '> %s\n' "$1"
   tell_came >"$room/came"
+  printf '%s\t%s\n' "$(count_records <"$room/after")" "${2# }" >>"$room/told"
   mv "$room/after" "$room/before"
   [ -s "$room/came" ] || return 0
   cat "$room/came"
@@ -79,6 +82,12 @@ tell_came() {
     case $part in */page.awk) ;; *) set -- "$@" -f "$part" ;; esac
   done
   awk "$@" -f "$top/launcher/tour.awk" <"$room/after"
+}
+
+# How many lines the record of each actor in a report has, as `a=12 b=3`; the end of an actor with names is no line of it.
+count_records() {
+  awk '/^actor / { name = $2; next } /^(position |\. \/|end$)/ { next } name != "" { lines[name]++ }
+    END { for (name in lines) printf "%s=%d ", name, lines[name] }'
 }
 
 # Whether the characters of this place are UTF-8.
@@ -101,21 +110,21 @@ ask_reader() {
 # Offers the page of the story that was told. Fails where the reader has enough.
 offer_page() {
   if [ "$is_guided" = no ]; then
-    printf '\n  Its page: ./qjm play %s | ./qjm draw "%s" > %s.html\n' "$(as_typed "$story")" "$title" "$name"
+    printf '\n  Its page: ./qjm play %s | ./qjm draw --steps "%s" > %s.html\n' "$(as_typed "$story")" "$title" "$name"
     return
   fi
-  while ask_reader '[Enter: go on, p: write the story as a page to look at, q: end] '; do
+  while ask_reader '[Enter: go on, p: write the story as a page to step through, q: end] '; do
     [ "$answer" = p ] || return 0
     write_page
   done
   return 1
 }
 
-# Writes the page of the story that was told, here or where temporary files are.
+# Writes the page of the story that was told, to step through, here or where temporary files are.
 write_page() {
   page=qjm-$name.html
   [ -w . ] || page=${TMPDIR:-/tmp}/qjm-$name.html
-  if (draw "$title" <"$room/before" >"$page"); then
+  if (told=$room/told && draw --steps "$title" <"$room/before" >"$page"); then
     printf '%s is written: open it in a browser\n' "$page"
   else
     say "the page couldn't be written to $page"

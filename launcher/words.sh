@@ -1,7 +1,9 @@
 # The words after ./qjm: which of them are a command's, and the help of each.
 
 # The program's commands, and those that the launcher answers itself.
-readonly PROGRAM_COMMANDS='play run piped mirror boot gen node serve lead oev oiv fsck judge'
+readonly PROGRAM_COMMANDS='play run piped mirror boot gen node serve lead oev oiv fsck judge states'
+# those of them that read a report
+readonly REPORT_COMMANDS='judge states'
 if is_installed; then
   readonly OWN_COMMANDS='draw tour cluster rules help' OWN_OPTIONS='--version'
 else
@@ -73,12 +75,23 @@ place_in_gen() {
   fi
 }
 
-# The place of the first wrong word of `serve CLIENTS [FOLDER]` or `lead NODES [FOLDER]`, where the number is at most $1.
-place_in_counted() {
-  if ! is_number "${3-}" 1 "$1"; then
+# The place of the first wrong word of `serve CLIENTS [FOLDER]`.
+place_in_serve() {
+  if ! is_number "${2-}" 1 64; then
     echo 1
-  elif [ $# -gt 4 ]; then
+  elif [ $# -gt 3 ]; then
     echo 3
+  fi
+}
+
+# The place of the first wrong word of `lead NODES [FOLDER [SECONDS]]`.
+place_in_lead() {
+  if ! is_number "${2-}" 1 15; then
+    echo 1
+  elif [ $# -gt 3 ] && ! is_number "$4" 1 3600; then
+    echo 3
+  elif [ $# -gt 4 ]; then
+    echo 4
   fi
 }
 
@@ -86,14 +99,14 @@ place_in_counted() {
 # where the words are a command. The program's own rule is the same, and waits for no quick run here.
 wrong_place() {
   case ${1-},${2-} in
-    play,* | run,* | piped,* | mirror,* | boot,* | node,* | fsck,* | judge,*) [ $# -eq 1 ] || echo 1 ;;
+    play,* | run,* | piped,* | mirror,* | boot,* | node,* | fsck,* | judge,* | states,*) [ $# -eq 1 ] || echo 1 ;;
     oev,back) place_in_back "$@" ;;
     oev,*) place_in_listing "$SEGMENT_LISTINGS" "$@" ;;
     oiv,ls) place_in_ls "$@" ;;
     oiv,*) place_in_listing "$IMAGE_LISTINGS" "$@" ;;
     gen,*) place_in_gen "$@" ;;
-    serve,*) place_in_counted 64 "$@" ;;
-    lead,*) place_in_counted 15 "$@" ;;
+    serve,*) place_in_serve "$@" ;;
+    lead,*) place_in_lead "$@" ;;
     *) echo 0 ;;
   esac
 }
@@ -104,8 +117,9 @@ legal_words() {
     0* | 1help,*) echo "the commands are $PROGRAM_COMMANDS $OWN_COMMANDS" ;;
     1node,*) echo 'after `node` comes nothing, or `--unchecked` alone; to serve another folder go there (cd), then `node`' ;;
     1fsck,*) echo 'after `fsck` comes nothing; to check another folder go there (cd), then `fsck`' ;;
-    1judge,*) echo 'after `judge` comes nothing; the report is the standard input: `./qjm judge < FILE`' ;;
-    ?draw,*) echo 'after `draw` come --svg, --whole and a title; the report is the standard input: `./qjm draw < FILE`' ;;
+    1judge,* | 1states,*) echo "after \`$2\` comes nothing; the report is the standard input: \`./qjm $2 < FILE\`" ;;
+    [2-9]draw,--live) echo 'after `draw --live` comes the name of a page, as live.html, and nothing else' ;;
+    ?draw,*) echo 'after `draw` come --steps, or --svg and --whole, and a title; the report is the standard input: `./qjm draw < FILE`' ;;
     1tour,*) echo "after \`tour\` comes nothing, or one story: $(list_stories | paste -sd ' ' -)" ;;
     1play,* | 1run,* | 1mirror,* | 1boot,*) echo "after \`$2\` comes nothing, or the name of one file" ;;
     1oev,*) echo "after \`oev\` comes one of $SEGMENT_LISTINGS back" ;;
@@ -117,7 +131,8 @@ legal_words() {
     3oiv,ls) echo "PATH comes last, and begins with \`/\`" ;;
     4oev,back) echo "EPOCH is from 1 to $GREATEST, without a leading zero" ;;
     1serve,*) echo "CLIENTS is from 1 to 64" ;;
-    3serve,* | 3lead,*) echo "the name of a folder comes last" ;;
+    3serve,*) echo "the name of a folder comes last" ;;
+    3lead,*) echo "SECONDS is from 1 to 3600, without a leading zero" ;;
     1--version,*) echo 'after `--version` comes nothing, or `--check`' ;;
     1--use,*) echo "the name of a package's file comes last" ;;
     2--package,*) echo 'after `--package` comes nothing, or the name of one folder' ;;
