@@ -12,7 +12,7 @@ other inputs are. Of `serve`:
 
 Lines of one client that follow one another are a session: the client's pipes are opened before it,
 and read to their end behind it. A client that was answered `bad` does nothing more. Then the
-standard input is closed, and each thread that waits is let in. Of `lead`:
+standard input is closed, and the program ends by itself. Of `lead`:
 
   @K WHEN WAY ..   what node K does as it is asked this: the WHEN-th time, or the first time that
                    such a word is asked
@@ -45,6 +45,8 @@ from making import LARGEST, Case
 
 SECONDS = 60
 LONGEST_LINE = 1 << 20
+# What a pipe takes of which nobody reads.
+PIPE_ROOM = 1 << 16
 TAGGED = re.compile(rb'#(0|[1-9]\d{0,19}) (0|[1-9]\d{0,19}) (.*) \.', re.DOTALL)
 PLAIN = re.compile(rb'#[1-9]\d{0,9} [1-9]\d{0,9} (state|manifest|read [1-9]\d{0,9}) \.')
 
@@ -61,13 +63,14 @@ def put_pipes(stem):
 
 
 def write_all(fd, data):
-    """Writes all to a pipe, or what is taken before its reader goes; whether it stayed."""
+    """Writes all to a pipe, or what is taken before its reader goes; how many bytes that were."""
+    rest = data
     try:
-        while data:
-            data = data[os.write(fd, data):]
+        while rest:
+            rest = rest[os.write(fd, rest):]
     except BrokenPipeError:
-        return False
-    return True
+        pass
+    return len(data) - len(rest)
 
 
 # ## Serve
@@ -96,10 +99,10 @@ class Client:
         return None
 
     def write(self, data, is_first):
-        """Writes to the node; whether it took it. At first it may still have its end of the session before."""
-        while not write_all(self.sink, data):
+        """Writes to the node; whether it took it. At first it may still have its end of the session before, and reads nothing."""
+        while (taken := write_all(self.sink, data)) < len(data):
             self.close_sink()
-            if is_first:
+            if is_first and taken <= PIPE_ROOM:
                 self.sink = self.dial()
             if self.sink is None:
                 return False
@@ -176,18 +179,6 @@ def sessions_of(given):
     return sessions, absent
 
 
-def let_in(process, stems, end):
-    """Opens and closes all pipes until the process is over, so that no thread of it waits for its client."""
-    while process.poll() is None:
-        if time.monotonic() > end:
-            raise Late
-        fds = [os.open(f'{stem}.{name}', os.O_RDWR | os.O_NONBLOCK) for stem in stems for name in ('requests', 'replies')]
-        time.sleep(.001)
-        for fd in fds:
-            os.close(fd)
-        time.sleep(.001)
-
-
 def serve(program, model, words, given, room):
     """The status, the output, and what each client heard."""
     end = time.monotonic() + SECONDS
@@ -207,8 +198,7 @@ def serve(program, model, words, given, room):
                     heard[client] = heard.get(client, b'') + told
                     over |= {client} if is_over else set()
             process.stdin.close()
-            let_in(process, stems.values(), end)
-            return process.wait(), process.stdout.read(), {f'(heard by client {client})': told for client, told in heard.items()}
+            return process.wait(max(1, end - time.monotonic())), process.stdout.read(), {f'(heard by client {client})': told for client, told in heard.items()}
         finally:
             process.kill()
 

@@ -1,10 +1,15 @@
-"""Makes reports for `qjm judge`, for trials/differ: whole ones of random scripts, and broken ones.
+"""Makes reports for `qjm judge` and `qjm states`, for trials/differ: whole ones of random scripts, and
+broken ones.
 
 A report is made by the model, and one in eight by threads or pipes of the program, which may be
 another one each time. What is broken is a line, a word or a byte of it; or a call, in the lists of
 its node and of its caller alike; or calls of which the nodes' answers are then made anew, by
 `node`, so that the lists break nothing but the rounds or the marks.
+
+Damaged reports are those of the kinds of scripts, each with just one byte or one line changed, and
+each is to get one verdict.
 """
+import re
 import subprocess
 import tempfile
 
@@ -40,7 +45,11 @@ class Programs:
 
 
 def answer(program, words, given, folder=None):
-    done = subprocess.run([program, *words], input=given, capture_output=True, timeout=60, cwd=folder)
+    """What it writes with status 0; nothing where it ends otherwise, or not in time, as threads may on a busy machine."""
+    try:
+        done = subprocess.run([program, *words], input=given, capture_output=True, timeout=60, cwd=folder)
+    except subprocess.TimeoutExpired:
+        return b''
     return done.stdout if done.returncode == 0 else b''
 
 
@@ -279,4 +288,77 @@ def judged(r):
     return Case([(['judge'], some_text(r))])
 
 
-KINDS = {'judge': judged}
+# ## Damage
+
+# The kinds of cases that tell a report, or are played for one.
+SOURCES = ['raw', 'names', 'run', 'piped', 'gen']
+# What judge writes of a report, by its status: one line.
+VERDICTS = {
+    0: rb'agrees\n',
+    2: rb'error BadReport [1-9][0-9]* [1-9]\n',
+    5: rb'disagrees (Operator|Histories|Calls|Marks|Rounds) (node [1-9][0-9]*|actor [a-z][a-z0-9]*) [1-9][0-9]*\n',
+}
+
+
+def is_verdict(status, output):
+    """Whether an answer is just one verdict, with its status."""
+    return status in VERDICTS and re.fullmatch(VERDICTS[status], output) is not None
+
+
+def told_report(r):
+    """The report of a case of one of these kinds: the model's, or of some runs by threads and pipes the program's own."""
+    kind = r.choice(SOURCES)
+    [(words, given)] = making.KINDS[kind](r).steps
+    if kind == 'gen':
+        seed, count, nodes = words[1], min(int(words[2]), 50), words[3]
+        words, given = ['play'], answer(Programs.model, ['gen', seed, str(count), nodes], b'')
+    is_own = words != ['play'] and r.random() < .3
+    return answer(Programs.qjm if is_own else Programs.model, words, given)
+
+
+def damaged_byte(r, data):
+    """A byte that is changed, left out or put in, in any line or in one of any kind."""
+    lines = data.splitlines(True)
+    place = some_place(r, [line.removesuffix(b'\n') for line in lines])
+    at = r.randrange(len(data)) if r.random() < .5 else sum(map(len, lines[:place])) + r.randrange(len(lines[place]))
+    byte = bytes([r.choice([data[at] ^ (1 << r.randrange(8)), r.choice(b'\n\t -0129=>abefo'), r.randrange(256)])])
+    return data[:at] + r.choice([byte, byte, byte + data[at:at + 1], b'']) + data[at + 1:]
+
+
+def damaged_line(r, data):
+    """A line that is left out, doubled, another, or changes places with one."""
+    lines = data.splitlines(True)
+    at, other = some_place(r, [line.removesuffix(b'\n') for line in lines]), r.randrange(len(lines))
+    way = r.randrange(6)
+    if way == 0:
+        del lines[at]
+    elif way == 1:
+        lines.insert(at, lines[at])
+    elif way == 2:
+        lines[at] = lines[other]
+    elif way == 3:
+        lines.insert(at, r.choice(LINES) + b'\n')
+    else:
+        other = min(at + 1, len(lines) - 1) if way == 4 else other
+        lines[at], lines[other] = lines[other], lines[at]
+    return b''.join(lines)
+
+
+def damaged(r):
+    """A report of which a byte or a line is damaged, so that it is no longer the same."""
+    data = b''
+    while not data:
+        data = told_report(r)
+    given = data
+    while given == data:
+        given = r.choice([damaged_byte, damaged_line])(r, data)
+    return Case([(['judge'], given)])
+
+
+def told(r):
+    return Case([(['states'], some_text(r) if r.random() < .4 else some_report(r)[0])])
+
+
+KINDS = {'judge': judged, 'damaged': damaged, 'states': told}
+# Of a kind, which answers the program may give, as a test of a status and an output; where none stands here it may give any.
+ANSWERS = {'damaged': is_verdict}
